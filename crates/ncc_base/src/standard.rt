@@ -1,0 +1,78 @@
+//! A source and a sink over std's readers and writers. They tell no content: what a file or a pipe holds
+//! is outside of every proof.
+
+ghost use Rattle.std.specs.Prelude.{None};
+
+use crate::sink::{Sink, SinkError};
+use crate::source::{Failed, Source};
+use std::io::{Read, Write};
+
+/// A source over a reader, such as standard input.
+#[derive(Drop)]
+pub struct StdSource<I> {
+    inner: I,
+    faults: u64,
+}
+
+impl<I> StdSource<I> {
+    /// A source over this reader. Its count of faults is 0.
+    pub fn new(inner: I) -> StdSource<I> {
+        StdSource { inner, faults: 0 }
+    }
+}
+
+impl<I: Read> Source for StdSource<I> {
+    ghost left = { λ _. None };
+
+    ghost faults = { λ s. s.faults };
+
+    fn read(&mut self, into: &mut [u8]) -> Result<usize, Failed> {
+        match self.inner.read(into) {
+            Ok(count) => Ok(count),
+            Err(_) => {
+                self.faults = self.faults.saturating_add(1);
+                Err(Failed)
+            }
+        }
+    }
+}
+
+/// A sink over a writer, such as standard output.
+#[derive(Drop)]
+pub struct StdSink<O> {
+    inner: O,
+    faults: u64,
+}
+
+impl<O> StdSink<O> {
+    /// A sink over this writer. Its count of faults is 0.
+    pub fn new(inner: O) -> StdSink<O> {
+        StdSink { inner, faults: 0 }
+    }
+}
+
+impl<O: Write> Sink for StdSink<O> {
+    ghost held = { λ _. None };
+
+    ghost faults = { λ s. s.faults };
+
+    fn write(&mut self, bytes: &[u8]) -> Result<(), SinkError> {
+        match self.inner.write_all(bytes) {
+            Ok(()) => Ok(()),
+            Err(_) => {
+                self.faults = self.faults.saturating_add(1);
+                Err(SinkError::Failed)
+            }
+        }
+    }
+
+    fn flush(&mut self) -> Result<(), Failed> {
+        match self.inner.flush() {
+            Ok(()) => Ok(()),
+            Err(_) => {
+                self.faults = self.faults.saturating_add(1);
+                Err(Failed)
+            }
+        }
+    }
+}

@@ -1,0 +1,8 @@
+//! Waits for a place of the history, with a deadline.
+#![tactic(auto)]
+
+mod ends;
+mod judge;
+
+pub use ends::Outcome;
+pub use judge::outcome;
