@@ -1,6 +1,6 @@
 //! A source and a sink in memory, which fail at the calls that their maker names.
 
-ghost use Rattle.std.specs.Prelude.{◌≡◌, ℕ, ◌<◌, ◌≤◌, ◌↔◌, ◌++◌, [], length, take, Contains, IfOk, OnOk, OnErr, IsErr, IsErrOf, IsTrue, Some, if◌then◌else◌};
+ghost use Rattle.std.specs.Prelude.{◌≡◌, ℕ, ◌<◌, ◌≤◌, ◌↔◌, ◌⊎◌, ◌++◌, [], length, take, Contains, IfOk, OnOk, OnErr, IsErr, IsErrOf, IsTrue, Some, if◌then◌else◌};
 ghost use Rattle.std.specs.Io.KnownBytes.{Appends, Consumes, IsAtEnd};
 ghost use Rattle.ncc_base.specs.Faults.{Rose, one_more};
 
@@ -158,6 +158,7 @@ impl Sink for MemSink {
         // It fails at the calls that are listed, and at no other, and takes nothing then.
         ensures listed { IsErrOf result SinkError.Failed ↔ Contains self.old.failing self.new.calls }
         ensures takes_nothing { OnErr result (self.new.held ≡ self.old.held) }
+        ensures no_fault { IsErrOf result SinkError.Failed ⊎ (self.new.faults ≡ self.old.faults) }
         ensures calls { self.new.calls ≡ one_more self.old.calls }
         ensures list { self.new.failing ≡ self.old.failing }
     {
@@ -175,6 +176,7 @@ impl Sink for MemSink {
         ensures never_falls { self.old.faults ≤ self.new.faults }
         ensures failed { OnErr result (Rose self.old.faults self.new.faults) }
         ensures listed { IsErr result ↔ Contains self.old.failing self.new.calls }
+        ensures no_fault { OnOk result (self.new.faults ≡ self.old.faults) }
         ensures calls { self.new.calls ≡ one_more self.old.calls }
         ensures list { self.new.failing ≡ self.old.failing }
     {

@@ -1,22 +1,33 @@
 //! A source and a sink over std's readers and writers. They tell no content: what a file or a pipe holds
 //! is outside of every proof.
 
-ghost use Rattle.std.specs.Prelude.{None};
+ghost use Rattle.std.specs.Prelude.{◌≡◌, None};
 
 use crate::sink::{Sink, SinkError};
 use crate::source::{Failed, Source};
 use std::io::{Read, Write};
+use std::marker::Model;
 
-/// A source over a reader, such as standard input.
+/// A source over a reader, such as standard input. A contract sees the count of its faults.
 #[derive(Drop)]
 pub struct StdSource<I> {
     inner: I,
     faults: u64,
 }
 
+impl<I> Model for StdSource<I> {
+    ghost use Rattle.std.specs.Prelude.{ℕ};
+
+    ghost Value = { ℕ };
+
+    ghost view = { λ s. s.faults };
+}
+
 impl<I> StdSource<I> {
     /// A source over this reader. Its count of faults is 0.
-    pub fn new(inner: I) -> StdSource<I> {
+    pub fn new(inner: I) -> StdSource<I>
+        ensures { result ≡ 0 }
+    {
         StdSource { inner, faults: 0 }
     }
 }
@@ -24,7 +35,7 @@ impl<I> StdSource<I> {
 impl<I: Read> Source for StdSource<I> {
     ghost left = { λ _. None };
 
-    ghost faults = { λ s. s.faults };
+    ghost faults = { λ faults. faults };
 
     fn read(&mut self, into: &mut [u8]) -> Result<usize, Failed> {
         match self.inner.read(into) {
@@ -37,16 +48,26 @@ impl<I: Read> Source for StdSource<I> {
     }
 }
 
-/// A sink over a writer, such as standard output.
+/// A sink over a writer, such as standard output. A contract sees the count of its faults.
 #[derive(Drop)]
 pub struct StdSink<O> {
     inner: O,
     faults: u64,
 }
 
+impl<O> Model for StdSink<O> {
+    ghost use Rattle.std.specs.Prelude.{ℕ};
+
+    ghost Value = { ℕ };
+
+    ghost view = { λ s. s.faults };
+}
+
 impl<O> StdSink<O> {
     /// A sink over this writer. Its count of faults is 0.
-    pub fn new(inner: O) -> StdSink<O> {
+    pub fn new(inner: O) -> StdSink<O>
+        ensures { result ≡ 0 }
+    {
         StdSink { inner, faults: 0 }
     }
 }
@@ -54,7 +75,7 @@ impl<O> StdSink<O> {
 impl<O: Write> Sink for StdSink<O> {
     ghost held = { λ _. None };
 
-    ghost faults = { λ s. s.faults };
+    ghost faults = { λ faults. faults };
 
     fn write(&mut self, bytes: &[u8]) -> Result<(), SinkError> {
         match self.inner.write_all(bytes) {

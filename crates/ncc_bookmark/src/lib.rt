@@ -3,6 +3,8 @@
 
 mod bookmark;
 mod laws;
+#[cfg(test)]
+mod tests;
 
 pub use bookmark::{Bookmark, BookmarkError, need};
 pub use laws::one_text;

@@ -2,6 +2,8 @@
 #![tactic(auto)]
 
 mod bytes;
+#[cfg(test)]
+mod tests;
 mod text;
 mod words;
 

@@ -3,6 +3,8 @@
 
 mod ends;
 mod judge;
+#[cfg(test)]
+mod tests;
 
 pub use ends::Outcome;
 pub use judge::outcome;

@@ -1,0 +1,113 @@
+//! The objects in memory, and those over std's readers and writers, which no contract can see into.
+
+use crate::{Failed, MemSink, MemSource, Sink, SinkError, Source, StdSink, StdSource};
+use std::io;
+use std::io::{Read, Write};
+use std::test::Fail;
+
+#[test]
+fn reads_from_memory(rt: HostRuntime) -> Result<(), Fail> {
+    let mut source = MemSource::new(rt.alloc(), &[7, 8, 9], &[2])?;
+    let mut into = [0u8; 2];
+    let table = [
+        // what a call answers, and what then stands in the slice
+        (Ok(2), [7, 8]),
+        (Err(Failed), [7, 8]),
+        (Ok(1), [9, 8]),
+        (Ok(0), [9, 8]),
+    ];
+    for (want, bytes) in table {
+        assert_eq!(rt; source.read(&mut into), want);
+        assert_eq!(rt; into, bytes);
+    }
+    Ok(())
+}
+
+#[test]
+fn writes_to_memory(rt: HostRuntime) -> Result<(), Fail> {
+    let mut sink = MemSink::new(rt.alloc(), &[2, 4])?;
+    assert_eq!(rt; sink.held().len(), 0);
+    assert_eq!(rt; sink.write(&[1, 2]), Ok(()));
+    assert_eq!(rt; sink.write(&[3]), Err(SinkError::Failed));
+    assert_eq!(rt; sink.flush(), Ok(()));
+    assert_eq!(rt; sink.flush(), Err(Failed));
+    assert_eq!(rt; sink.write(&[4]), Ok(()));
+    assert_eq!(rt; sink.held(), [1u8, 2, 4].as_slice());
+    Ok(())
+}
+
+// Moves at most two bytes a call, and fails at its second one, be it a read, a write or a flush.
+#[derive(Drop)]
+struct FailsOnce<T> {
+    inner: T,
+    calls: u8,
+}
+
+impl<T> FailsOnce<T> {
+    fn turn(&mut self, length: usize) -> io::Result<usize> {
+        self.calls = self.calls.saturating_add(1);
+        if self.calls == 2 {
+            return Err(io::Error::from(io::ErrorKind::BrokenPipe));
+        }
+        Ok(length.min(2))
+    }
+}
+
+impl<T: Read> Read for FailsOnce<T> {
+    fn read(&mut self, into: &mut [u8]) -> io::Result<usize> {
+        let count = self.turn(into.len())?.min(into.len());
+        self.inner.read(&mut into[..count])
+    }
+}
+
+impl<T: Write> Write for FailsOnce<T> {
+    fn write(&mut self, bytes: &[u8]) -> io::Result<usize> {
+        let count = self.turn(bytes.len())?.min(bytes.len());
+        self.inner.write(&bytes[..count])
+    }
+
+    fn flush(&mut self) -> io::Result<()> {
+        self.turn(0)?;
+        self.inner.flush()
+    }
+}
+
+#[test]
+fn reads_from_a_reader(rt: HostRuntime) {
+    let bytes = [7u8, 8, 9];
+    let mut into = [0u8; 2];
+    let mut whole = StdSource::new(bytes.as_slice());
+    for (want, front) in [(2, [7, 8]), (1, [9, 8]), (0, [9, 8])] {
+        assert_eq!(rt; whole.read(&mut into), Ok(want));
+        assert_eq!(rt; into, front);
+    }
+    let inner = bytes.as_slice();
+    let mut failing = StdSource::new(FailsOnce { inner, calls: 0 });
+    for want in [Ok(2), Err(Failed), Ok(1), Ok(0)] {
+        assert_eq!(rt; failing.read(&mut into), want);
+    }
+}
+
+#[test]
+fn writes_to_a_writer(rt: HostRuntime) -> Result<(), Fail> {
+    let mut whole = Vec::new(rt.alloc());
+    let mut sink = StdSink::new(&mut whole);
+    assert_eq!(rt; sink.write(&[1, 2, 3]), Ok(()));
+    assert_eq!(rt; sink.write(&[4]), Ok(()));
+    assert_eq!(rt; sink.flush(), Ok(()));
+    assert_eq!(rt; whole.as_slice(), [1u8, 2, 3, 4].as_slice());
+
+    let mut cut = Vec::new(rt.alloc());
+    let inner = &mut cut;
+    let mut sink = StdSink::new(FailsOnce { inner, calls: 0 });
+    assert_eq!(rt; sink.write(&[1, 2, 3]), Err(SinkError::Failed));
+    assert_eq!(rt; sink.write(&[4]), Ok(()));
+    assert_eq!(rt; cut.as_slice(), [1u8, 2, 4].as_slice());
+
+    let inner: Vec<u8> = Vec::new(rt.alloc());
+    let mut sink = StdSink::new(FailsOnce { inner, calls: 0 });
+    assert_eq!(rt; sink.flush(), Ok(()));
+    assert_eq!(rt; sink.flush(), Err(Failed));
+    assert_eq!(rt; sink.flush(), Ok(()));
+    Ok(())
+}
