@@ -1,0 +1,16 @@
+pub mod Lists
+pub mod Turns
+pub mod Sound
+pub mod Answering
+pub mod Steps
+pub mod Whole
+pub mod First
+pub mod Kept
+pub mod Moving
+pub mod Proposing
+pub mod CatchingUp
+pub mod Reporting
+pub mod Words
+pub mod Lines
+pub mod Scripts
+pub mod ScriptLaws

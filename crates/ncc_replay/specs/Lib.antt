@@ -1,0 +1,14 @@
+pub mod State
+pub mod Run
+pub mod Request
+pub mod Moment
+pub mod Cluster
+pub mod Lawful
+pub mod Headline
+pub mod Line
+pub mod Script
+pub mod Progress
+pub mod Replay
+pub mod Reading
+pub mod Report
+pub mod StatusText
