@@ -1,6 +1,10 @@
 //! Runs a script of client requests on the members of a cluster, and reports what came of it.
 #![tactic(auto)]
 
+ghost use Rattle.std.specs.Prelude.{◌≡◌, ◌⊎◌, IfOk, IsErrOf, drop, map};
+ghost use Rattle.ncc_replay.specs.declared.status.Status.{Status as Statuses};
+ghost use Rattle.std.specs.String.{string_bytes};
+
 mod cluster;
 mod conn;
 mod event;
@@ -25,19 +29,37 @@ use std::alloc::{AllocError, Global};
 use std::process::ExitCode;
 use std::{env, io};
 
-// The words behind the name of the program.
-fn words_of(alloc: Global, args: env::Args) -> Result<Words, AllocError> {
+// Texts as words.
+fn words_of(alloc: Global, texts: &[String]) -> Result<Words, AllocError>
+    ensures { IfOk result (λ words. words ≡ map string_bytes texts.now) }
+{
     let mut words = Words::new(alloc);
-    for word in args.skip(1) {
-        words.push(Text::from_str(alloc, word.as_str())?)?;
+    for text in texts {
+        words.push(Text::from_str(alloc, text.as_str())?)?;
     }
     Ok(words)
 }
 
+// The words behind the name of the program.
+fn words_behind(alloc: Global, texts: &[String]) -> Result<Words, AllocError>
+    ensures { IfOk result (λ words. words ≡ map string_bytes (drop 1 texts.now)) }
+{
+    match texts {
+        [_, words @ ..] => words_of(alloc, words),
+        [] => Ok(Words::new(alloc)),
+    }
+}
+
 // The words of the command line, or how the replay ends without them.
-fn read_words(alloc: Global, args: io::Result<env::Args>) -> Result<Words, Status> {
-    match args {
-        Ok(args) => words_of(alloc, args).map_err(|_| Status::Memory),
+fn read_words(alloc: Global, texts: io::Result<Vec<String>>) -> Result<Words, Status>
+    ensures words { IfOk texts (λ v. IfOk result (λ words. words ≡ map string_bytes (drop 1 v.items))) }
+    ensures only { (status : Statuses) → IsErrOf result status → (status ≡ Status.BadWords) ⊎ (status ≡ Status.Memory) }
+{
+    match texts {
+        Ok(texts) => match words_behind(alloc, texts.as_slice()) {
+            Ok(words) => Ok(words),
+            Err(_) => Err(Status::Memory),
+        },
         Err(error) => match error.kind() {
             io::ErrorKind::OutOfMemory => Err(Status::Memory),
             _ => Err(Status::BadWords),
@@ -45,8 +67,13 @@ fn read_words(alloc: Global, args: io::Result<env::Args>) -> Result<Words, Statu
     }
 }
 
+// All words, the name of the program in front.
+fn gather(alloc: Global, args: io::Result<env::Args>) -> io::Result<Vec<String>> {
+    Ok(args?.collect(alloc)?)
+}
+
 fn main(rt: HostRuntime) -> ExitCode {
-    let status = match read_words(rt.alloc(), env::args(&rt)) {
+    let status = match read_words(rt.alloc(), gather(rt.alloc(), env::args(&rt))) {
         Ok(words) => {
             let mut input = StdSource::new(rt.reader());
             let mut output = StdSink::new(io::writer(&rt));

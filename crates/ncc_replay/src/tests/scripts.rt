@@ -2,16 +2,15 @@
 
 use super::Case;
 
-pub(super) const CASES: &[Case] = &[
-    Case {
-        shows: "a put, and a get that presents its bookmark",
-        script: b"\
-ncc-script 1
-cluster list 1 0 1 30000
-put 1 a x
-get 1 a ncc:AQAAAAAAAAABAAAAAAAAAAEA
-",
-        report: "\
+// Of a script that names no cluster.
+const NOTHING: &str = "\
+ncc-report 1
+history 0
+end
+";
+
+// Of a put, and a get that reads it, on the lines 3 and 4.
+const OWN_WRITE: &str = "\
 ncc-report 1
 fact 3 1 entered 0
 fact 3 1 rows 0 none
@@ -25,34 +24,33 @@ member 1 leader 1 1
 history 1
 place 1 1 put a x valid
 end
+";
+
+pub(super) const CASES: &[Case] = &[
+    Case {
+        shows: "a put, and a get that presents its bookmark",
+        script: b"\
+ncc-script 1
+cluster list 1 0 1 30000
+put 1 a x
+get 1 a ncc:AQAAAAAAAAABAAAAAAAAAAEA
 ",
+        report: OWN_WRITE,
     },
     Case {
         shows: "an empty script",
         script: b"",
-        report: "\
-ncc-report 1
-history 0
-end
-",
+        report: NOTHING,
     },
     Case {
         shows: "the header alone",
         script: b"ncc-script 1\n",
-        report: "\
-ncc-report 1
-history 0
-end
-",
+        report: NOTHING,
     },
     Case {
         shows: "the header alone, without its LF",
         script: b"ncc-script 1",
-        report: "\
-ncc-report 1
-history 0
-end
-",
+        report: NOTHING,
     },
     Case {
         shows: "comments and empty lines alone",
@@ -61,11 +59,7 @@ end
 
 
 #",
-        report: "\
-ncc-report 1
-history 0
-end
-",
+        report: NOTHING,
     },
     Case {
         shows: "a cluster to which nothing happens",
@@ -135,21 +129,7 @@ ncc-script 1
 cluster list 1 0 1 30000
 put 1 a x
 get 1 a",
-        report: "\
-ncc-report 1
-fact 3 1 entered 0
-fact 3 1 rows 0 none
-fact 3 1 placed 1
-fact 4 2 entered 1
-fact 4 2 rows 1 word x
-fact 4 2 done 1
-conn 1 1 ended
-conn 2 1 ended
-member 1 leader 1 1
-history 1
-place 1 1 put a x valid
-end
-",
+        report: OWN_WRITE,
     },
     Case {
         shows: "a get of a key that nobody put",
@@ -456,21 +436,7 @@ cluster list 1 0 0 30000
 put 1 a x
 get 1 a ncc:AQAAAAAAAAAAAAAAAAAAAAEA
 ",
-        report: "\
-ncc-report 1
-fact 3 1 entered 0
-fact 3 1 rows 0 none
-fact 3 1 placed 1
-fact 4 2 entered 1
-fact 4 2 rows 1 word x
-fact 4 2 done 1
-conn 1 1 ended
-conn 2 1 ended
-member 1 leader 1 1
-history 1
-place 1 1 put a x valid
-end
-",
+        report: OWN_WRITE,
     },
     Case {
         shows: "numbers of more than one digit",
