@@ -1,13 +1,17 @@
-//! The list types that the other crates speak in: texts, bytes and words. Contracts see each as a list.
+//! PackStream version 1: its values, and the list types that the other crates speak in. Contracts see each as a list.
 #![tactic(auto)]
 
 mod bytes;
+mod sequence;
 #[cfg(test)]
 mod tests;
 mod text;
+mod value;
 mod words;
 
 pub use bytes::Bytes;
+pub use sequence::Sequence;
 pub use std::alloc::AllocError as Memory;
 pub use text::Text;
+pub use value::{Dict, NodeValue, Value, Values, copy_dict, copy_values};
 pub use words::Words;
