@@ -2,6 +2,10 @@
 #![tactic(auto)]
 
 mod bytes;
+mod error;
+mod field;
+mod mark;
+mod read;
 mod sequence;
 #[cfg(test)]
 mod tests;
@@ -10,6 +14,8 @@ mod value;
 mod words;
 
 pub use bytes::Bytes;
+pub use error::PackError;
+pub use read::decode;
 pub use sequence::Sequence;
 pub use std::alloc::AllocError as Memory;
 pub use text::Text;

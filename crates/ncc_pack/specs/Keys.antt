@@ -1,0 +1,9 @@
+-- The keys of pairs.
+use Rattle.std.specs.Prelude.{Bool, true, not, ◌&&◌, ℕ, List, [], ◌∷◌, ◌++◌}
+use Rattle.std.specs.List.{list_any}
+use Rattle.std.specs.Str.{bytes_eq}
+
+-- no key equals one before it, or one of the earlier
+abbrev pub distinct : {A : Type 0} → List (List ℕ) → List (List ℕ × A) → Bool
+distinct earlier [] = true
+distinct earlier (p ∷ ps) = not (list_any (bytes_eq p.0) earlier) && distinct (earlier ++ p.0 ∷ []) ps

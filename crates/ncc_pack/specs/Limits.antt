@@ -1,0 +1,10 @@
+-- The limits on sizes and on nesting.
+use Rattle.std.specs.Prelude.{ℕ}
+
+-- the greatest size of a text, of bytes, of a list and of a dictionary
+abbrev pub max_size : ℕ
+max_size = 16_777_216
+
+-- how many lists, dictionaries and nodes may stand inside one another
+abbrev pub max_depth : ℕ
+max_depth = 32
