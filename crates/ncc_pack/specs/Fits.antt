@@ -49,6 +49,10 @@ fits_node_step n (suc d) = fits_i64 n.id && fits_labels n.labels d && fits_dict 
 abbrev pub fit : Value → Fit
 fit = fold-Value Fit (ℕ → Bool) fits_step fits_node_step
 
+-- a node fits within so many levels
+abbrev pub fits_node : NodeValue → ℕ → Bool
+fits_node = fold-NodeValue Fit (ℕ → Bool) fits_step fits_node_step
+
 abbrev pub fit_pair : List ℕ × Value → List ℕ × Fit
 fit_pair p = (p.0, fit p.1)
 

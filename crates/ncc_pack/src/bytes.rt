@@ -1,6 +1,6 @@
 //! Bytes.
 
-ghost use Rattle.std.specs.Prelude.{◌≡◌, ◌++◌, ◌∷◌, [], length, IfOk, OnOk, OnErr, IsTrue, ◌↔◌};
+ghost use Rattle.std.specs.Prelude.{◌≡◌, ◌++◌, ◌∷◌, [], length, take, IfOk, OnOk, OnErr, IsTrue, ◌↔◌};
 
 use std::alloc::{AllocError, Global};
 use std::marker::Model;
@@ -73,6 +73,13 @@ impl Bytes {
         ensures err { OnErr result (self.new ≡ self.old) }
     {
         self.inner.extend_from_slice(more)
+    }
+
+    /// Keeps the first bytes alone, so many of them, or all where there are no more. It takes no memory.
+    pub fn truncate(&mut self, len: usize)
+        ensures { self.new ≡ take len self.old }
+    {
+        self.inner.truncate(len);
     }
 
     /// An equal value, on the same allocator.

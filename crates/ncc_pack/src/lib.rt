@@ -12,6 +12,7 @@ mod tests;
 mod text;
 mod value;
 mod words;
+mod write;
 
 pub use bytes::Bytes;
 pub use error::PackError;
@@ -21,3 +22,4 @@ pub use std::alloc::AllocError as Memory;
 pub use text::Text;
 pub use value::{Dict, NodeValue, Value, Values, copy_dict, copy_values};
 pub use words::Words;
+pub use write::encode;
