@@ -1,5 +1,5 @@
 -- The keys of pairs.
-use Rattle.std.specs.Prelude.{Bool, true, not, ◌&&◌, ℕ, List, [], ◌∷◌, ◌++◌}
+use Rattle.std.specs.Prelude.{Bool, true, not, ◌&&◌, ℕ, List, [], ◌∷◌, ◌++◌, map}
 use Rattle.std.specs.List.{list_any}
 use Rattle.std.specs.Str.{bytes_eq}
 
@@ -7,3 +7,7 @@ use Rattle.std.specs.Str.{bytes_eq}
 abbrev pub distinct : {A : Type 0} → List (List ℕ) → List (List ℕ × A) → Bool
 distinct earlier [] = true
 distinct earlier (p ∷ ps) = not (list_any (bytes_eq p.0) earlier) && distinct (earlier ++ p.0 ∷ []) ps
+
+-- the keys of pairs
+abbrev pub keys : {A : Type 0} → List (List ℕ × A) → List (List ℕ)
+keys ps = map (λ p. p.0) ps

@@ -4,9 +4,11 @@
 mod bytes;
 mod error;
 mod field;
+mod fit;
 mod mark;
 mod read;
 mod sequence;
+mod size;
 #[cfg(test)]
 mod tests;
 mod text;
@@ -18,6 +20,7 @@ pub use bytes::Bytes;
 pub use error::PackError;
 pub use read::decode;
 pub use sequence::Sequence;
+pub use size::short_len;
 pub use std::alloc::AllocError as Memory;
 pub use text::Text;
 pub use value::{Dict, NodeValue, Value, Values, copy_dict, copy_values};
