@@ -1,18 +1,20 @@
 //! How long the shortest spelling of a value is.
 
-ghost use Rattle.std.specs.Prelude.{◌≡◌, ◌≤◌, ◌-◌, ◌^◌, map, length, min, IsTrue};
+ghost use Rattle.std.specs.Prelude.{◌≡◌, ◌≤◌, ◌+◌, ◌-◌, ◌^◌, ℕ, map, length, min, IsTrue};
 ghost use Rattle.ncc_pack.specs.Limits.{max_size};
-ghost use Rattle.ncc_pack.specs.Spells.{texts, bytes_mark};
-ghost use Rattle.ncc_pack.specs.Short.{head, wide_head, integer, text, list, dict, short, short_node, short_pair};
+ghost use Rattle.ncc_pack.specs.Spells.{Kind};
+ghost use Rattle.ncc_pack.specs.Short.{head, wide_head, integer, text, bytes, list, dict, short, short_node, short_pair};
 ghost use Rattle.ncc_pack.specs.Fits.{fits};
 ghost use Rattle.ncc_pack.specs.Writing.{SomeValue, SomeList, SomeDict, SomeNode};
 
+use crate::bytes::Bytes;
 use crate::text::Text;
 use crate::value::{Dict, NodeValue, Value, Values};
 
 #[tactic(auto, unfolding(crate::specs::Short::integer))]
 fn integer_len(number: i64) -> u64
-    ensures { result ≡ length (integer number) }
+    ensures is { result ≡ length (integer number) }
+    ensures small { result ≤ 9 }
 {
     if -16 <= number && number < 128 {
         1
@@ -28,7 +30,8 @@ fn integer_len(number: i64) -> u64
 }
 
 fn wide_head_len(len: usize) -> u64
-    ensures { result ≡ length (wide_head bytes_mark len) }
+    ensures is { (mark : ℕ) → result ≡ length (wide_head mark len) }
+    ensures small { result ≤ 5 }
 {
     if len < 0x100 {
         2
@@ -41,7 +44,8 @@ fn wide_head_len(len: usize) -> u64
 
 #[tactic(auto, unfolding(crate::specs::Short::head))]
 fn head_len(len: usize) -> u64
-    ensures { result ≡ length (head texts len) }
+    ensures is { (kind : Kind) → result ≡ length (head kind len) }
+    ensures small { result ≤ 5 }
 {
     if len < 16 { 1 } else { wide_head_len(len) }
 }
@@ -49,9 +53,19 @@ fn head_len(len: usize) -> u64
 #[tactic(auto, unfolding(crate::specs::Short::text))]
 fn text_len(written: &Text) -> u64
     requires { length written.now ≤ max_size }
-    ensures { result ≡ length (text written.now) }
+    ensures is { result ≡ length (text written.now) }
+    ensures small { result ≤ max_size + 5 }
 {
     head_len(written.len()) + written.len() as u64
+}
+
+#[tactic(auto, unfolding(crate::specs::Short::bytes))]
+fn bytes_len(written: &Bytes) -> u64
+    requires { length written.now ≤ max_size }
+    ensures is { result ≡ length (bytes written.now) }
+    ensures small { result ≤ max_size + 5 }
+{
+    wide_head_len(written.len()) + written.len() as u64
 }
 
 #[cycle(measuring)]
@@ -101,7 +115,7 @@ fn value_len(value: &Value) -> u64
     match value {
         Value::Null | Value::Bool(_) => 1,
         Value::Int(number) => integer_len(*number),
-        Value::Bytes(bytes) => wide_head_len(bytes.len()) + bytes.len() as u64,
+        Value::Bytes(bytes) => bytes_len(bytes),
         Value::Text(text) => text_len(text),
         Value::List(values) => values_len(values),
         Value::Dict(pairs) => dict_len(pairs),
@@ -111,6 +125,7 @@ fn value_len(value: &Value) -> u64
 
 /// The length in bytes of the shortest spelling of a value. The value has to fit, which `Value::fits` says. A length that
 /// would pass the greatest `u64` stays there. It takes no memory.
+#[tactic(auto, using(crate::proofs::Loops::whole_value))]
 pub fn short_len(value: &Value) -> u64
     requires { IsTrue (fits value.now) }
     ensures { result ≡ min (length (short value.now)) (2 ^ 64 - 1) }
