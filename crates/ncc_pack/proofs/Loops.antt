@@ -54,16 +54,16 @@ all_at p [] i d lt h = absurd (omega arith)
 all_at p (x ∷ xs) zero d lt h = grind arith
 all_at p (x ∷ xs) (suc i) d lt h = let lt' : i < length xs = omega arith in let t : IsTrue (list_all p xs) = grind arith in all_at p xs i d lt' t
 
-no_true : IsTrue false → ⊥
+pub no_true : IsTrue false → ⊥
 no_true h = cc
 
-both : (a b : Bool) → IsTrue (a && b) → IsTrue a × IsTrue b
+pub both : (a b : Bool) → IsTrue (a && b) → IsTrue a × IsTrue b
 both a b h = grind arith
 
 within_size : (n : ℕ) → IsTrue (nat_le n max_size) → n ≤ max_size
 within_size n h = grind arith
 
-list_parts : (xs : List Value) (d : ℕ) → IsTrue (fits_list (map fit xs) (suc d)) → (length xs ≤ max_size) × IsTrue (list_all (λ x. fits_within x d) xs)
+pub list_parts : (xs : List Value) (d : ℕ) → IsTrue (fits_list (map fit xs) (suc d)) → (length xs ≤ max_size) × IsTrue (list_all (λ x. fits_within x d) xs)
 list_parts xs d h =
     let p = both (nat_le (length (map fit xs)) max_size) (list_all (λ f. f.levels d) (map fit xs)) h in
     let same : length (map fit xs) ≡ length xs = length-map xs fit in
@@ -72,7 +72,7 @@ list_parts xs d h =
 abbrev pub pair_fits : ℕ → List ℕ × Value → Bool
 pair_fits d p = fits_text p.0 && fits_within p.1 d
 
-dict_parts : (ps : List (List ℕ × Value)) (d : ℕ) → IsTrue (fits_dict (map fit_pair ps) (suc d)) → (length ps ≤ max_size) × IsTrue (list_all (pair_fits d) ps)
+pub dict_parts : (ps : List (List ℕ × Value)) (d : ℕ) → IsTrue (fits_dict (map fit_pair ps) (suc d)) → (length ps ≤ max_size) × IsTrue (list_all (pair_fits d) ps)
 dict_parts ps d h =
     let size = nat_le (length (map fit_pair ps)) max_size in
     let each = list_all (λ (p : List ℕ × Fit). fits_text p.0 && p.1.levels d) (map fit_pair ps) in
