@@ -182,7 +182,7 @@ items_again one R h (x ∷ xs) b rest each =
 
 -- neither the key nor one behind it repeats
 new_key : (a b : Bool) → IsTrue (not a && b) → (a ≡ false) × IsTrue b
-new_key true b h = absurd h
+new_key true b h = absurd (let e : false ≡ true = h in cc)
 new_key false b h = (refl, h)
 
 pairs_again : (total : ℕ) (value : List ℕ → Read Value) (R : Value → List ℕ → Type 0) → ((x : Value) (b rest : List ℕ) → R x b → value (b ++ rest) ≡ Ok (x, rest))
@@ -245,9 +245,9 @@ fields_again total inside spelled h n b sp =
     let i = sp.0 in
     let l = sp.1 in
     let p = sp.2 in
-    (0x4E ∷ (i ++ (l ++ p)), sp.6,
+    (0x4E ∷ ((i ++ l) ++ p), sp.6,
      λ rest.
-        let e : (i ++ (l ++ p)) ++ rest ≡ i ++ (l ++ (p ++ rest)) = append_assoc i (l ++ p) rest ∙ ap (λ (z : List ℕ). i ++ z) (append_assoc l p rest) in
+        let e : ((i ++ l) ++ p) ++ rest ≡ i ++ (l ++ (p ++ rest)) = append_assoc (i ++ l) p rest ∙ append_assoc i l (p ++ rest) in
         rw (e, id_again total n.id i (l ++ (p ++ rest)) sp.3, labels_again total n.labels l (p ++ rest) sp.4, props_again total inside spelled.dict h n.props p rest sp.5) refl)
 
 node_again : (total d : ℕ) → SizedAgain k.Dict (within total d).dict (levels d).dict → NodeAgain (within total (suc d)).node (levels (suc d)).node
