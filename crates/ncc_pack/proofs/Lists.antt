@@ -5,8 +5,7 @@ use Rattle.ncc_pack.specs.declared.error.PackError.{PackError}
 use Rattle.ncc_pack.specs.declared.error.PackError.TheVariants as e
 use Rattle.ncc_pack.specs.declared.error.PackError.TheVariants.{Short, Float, BadMarker, BadUtf8, TooDeep, TooLong, RepeatedKey, KeyNotText, Memory}
 use Rattle.ncc_pack.specs.declared.mark.Size.{Size}
-use Rattle.ncc_pack.specs.declared.value.NodeValue.{NodeValue}
-use Rattle.ncc_pack.specs.Reading.{◌>>=◌, Read, Fails, size_at, items_at, pairs_at, fields_at, within, list_of, dict_of, node_of, value_at}
+use Rattle.ncc_pack.specs.Reading.{◌>>=◌, Read, Fails, size_at, items_at, pairs_at, fields_at, within, list_of, dict_of, value_at}
 
 abbrev pub with_front : {A : Type 0} → List A → Read (List A) → Read (List A)
 with_front front read = read >>= λ x. Ok (front ++ x.0, x.1)

@@ -1,7 +1,7 @@
 -- What is spelled so is read, whatever follows.
-use Rattle.std.proofs.Common.{◌≡◌, ℕ, zero, suc, ◌+◌, ◌-◌, ◌^◌, ◌<◌, ◌≤◌, Bool, true, false, not, ◌&&◌, IsTrue, cond, ltb, List, [], ◌∷◌, ◌++◌, length, take, drop, Result, Ok, Err, refl, sym, ap, subst, ◌∙◌, append_assoc, arith}
-use Rattle.std.specs.Prelude.{ℤ, pos, negsuc, IsUtf8, nat_lt}
-use Rattle.std.specs.Int.{Width, w8, w16, w32, w64, from_be_bytes, to_be_bytes, cast_signed}
+use Rattle.std.proofs.Common.{◌≡◌, ℕ, zero, suc, ◌+◌, ◌-◌, ◌^◌, ◌≤◌, Bool, true, false, not, ◌&&◌, IsTrue, ltb, List, [], ◌∷◌, ◌++◌, length, take, drop, Ok, refl, ap, ◌∙◌, append_assoc, arith}
+use Rattle.std.specs.Prelude.{ℤ, IsUtf8, nat_lt}
+use Rattle.std.specs.Int.{w8, w16, w32, w64, from_be_bytes, to_be_bytes}
 use Rattle.std.specs.List.{list_any}
 use Rattle.std.specs.Str.{bytes_eq}
 use Rattle.std.proofs.lemmas.Bool.{le-ltb}
@@ -16,7 +16,7 @@ use Rattle.ncc_pack.specs.declared.mark.Size.TheVariants.{Here, One, Two, Four}
 use Rattle.ncc_pack.specs.Limits.{max_size}
 use Rattle.ncc_pack.specs.Keys.{distinct}
 use Rattle.ncc_pack.specs.Marker.{marker}
-use Rattle.ncc_pack.specs.Reading.{◌>>=◌, Read, Holders, number_at, integer_at, size_at, bytes_at, text_at, id_at, label_at, key_at, items_at, pairs_at, by_mark, value_with, labels_at, props_at, tag_at, fields_at, list_of, dict_of, within, value_at}
+use Rattle.ncc_pack.specs.Reading.{Read, Holders, size_at, bytes_at, text_at, id_at, label_at, key_at, items_at, pairs_at, value_with, labels_at, props_at, tag_at, fields_at, list_of, dict_of, within, value_at}
 use Rattle.ncc_pack.specs.Spells.{texts, lists, dicts, bytes_mark, IsWide, IsHead, SpellsInt, SpellsText, Each, Listed, Pair, Label, Holding, Spells, Fields, levels}
 use Rattle.ncc_pack.specs.Spells as s
 use Rattle.ncc_pack.proofs.Fields.{wide8, wide16, wide32, wide64, number_again}
@@ -108,9 +108,14 @@ Texted total t b = (m : ℕ) × (size : Size) × (more : List ℕ) × (b ≡ m �
 
 texted : (total : ℕ) (t b : List ℕ) → SpellsText t b → Texted total t b
 texted total t b sp =
-    let hd = text_head (length t) sp.0 sp.1 in
-    (hd.mark, hd.size, hd.more ++ t, sp.3 ∙ ap (λ (z : List ℕ). z ++ t) hd.is, hd.marks,
-     λ at rest. (t ++ rest, ap (size_at at hd.size) (append_assoc hd.more t rest) ∙ hd.reads at (t ++ rest), text_again total t rest sp.2))
+    let hd = text_head (length t) sp.0 sp.1 in (
+      hd.mark,
+      hd.size,
+      hd.more ++ t,
+      sp.3 ∙ ap (λ (z : List ℕ). z ++ t) hd.is,
+      hd.marks,
+      λ at rest. (t ++ rest, ap (size_at at hd.size) (append_assoc hd.more t rest) ∙ hd.reads at (t ++ rest), text_again total t rest sp.2),
+    )
 
 pub key_again : (total : ℕ) (t b rest : List ℕ) → SpellsText t b → key_at total (b ++ rest) ≡ Ok (t, rest)
 unfolding key_at
@@ -196,7 +201,7 @@ pairs_again total value R h earlier (p ∷ ps) b rest each new =
     let more = each.1 in
     let n = new_key (list_any (bytes_eq p.0) earlier) (distinct (earlier ++ p.0 ∷ []) ps) new in
     let e : b ++ rest ≡ key ++ (spelled ++ (more ++ rest)) =
-        ap (λ (z : List ℕ). z ++ rest) each.4 ∙ append_assoc each.0 more rest ∙ ap (λ (z : List ℕ). z ++ (more ++ rest)) one.4 ∙ append_assoc key spelled (more ++ rest) in
+    ap (λ (z : List ℕ). z ++ rest) each.4 ∙ append_assoc each.0 more rest ∙ ap (λ (z : List ℕ). z ++ (more ++ rest)) one.4 ∙ append_assoc key spelled (more ++ rest) in
     ap (pairs_at total value earlier (suc (length ps))) e
     ∙ rw (key_again total p.0 key (spelled ++ (more ++ rest)) one.2, n.0, h p.1 spelled (more ++ rest) one.3, pairs_again total value R h (earlier ++ p.0 ∷ []) ps more rest each.3 n.1) refl
 
@@ -205,9 +210,14 @@ list_again : (total : ℕ) (inside : Holders) (R : Value → List ℕ → Type 0
 unfolding list_of
 list_again total inside R h xs b sp =
     let hd = list_head (length xs) sp.0 sp.2 in
-    let items = sp.1 in
-    (hd.mark, hd.size, hd.more ++ items, sp.4 ∙ ap (λ (z : List ℕ). z ++ items) hd.is, hd.marks,
-     λ at rest. rw (append_assoc hd.more items rest, hd.reads at (items ++ rest)) (items_again (value_with total inside) R h xs items rest sp.3))
+    let items = sp.1 in (
+      hd.mark,
+      hd.size,
+      hd.more ++ items,
+      sp.4 ∙ ap (λ (z : List ℕ). z ++ items) hd.is,
+      hd.marks,
+      λ at rest. rw (append_assoc hd.more items rest, hd.reads at (items ++ rest)) (items_again (value_with total inside) R h xs items rest sp.3),
+    )
 
 dict_again : (total : ℕ) (inside : Holders) (R : Value → List ℕ → Type 0) → ((x : Value) (b rest : List ℕ) → R x b → value_with total inside (b ++ rest) ≡ Ok (x, rest))
     → SizedAgain k.Dict (dict_of total inside) (λ ps b. Listed dicts (Pair R) ps b × IsTrue (distinct [] ps))
@@ -215,9 +225,14 @@ unfolding dict_of
 dict_again total inside R h ps b both =
     let sp = both.0 in
     let hd = dict_head (length ps) sp.0 sp.2 in
-    let items = sp.1 in
-    (hd.mark, hd.size, hd.more ++ items, sp.4 ∙ ap (λ (z : List ℕ). z ++ items) hd.is, hd.marks,
-     λ at rest. rw (append_assoc hd.more items rest, hd.reads at (items ++ rest)) (pairs_again total (value_with total inside) R h [] ps items rest sp.3 both.1))
+    let items = sp.1 in (
+      hd.mark,
+      hd.size,
+      hd.more ++ items,
+      sp.4 ∙ ap (λ (z : List ℕ). z ++ items) hd.is,
+      hd.marks,
+      λ at rest. rw (append_assoc hd.more items rest, hd.reads at (items ++ rest)) (pairs_again total (value_with total inside) R h [] ps items rest sp.3 both.1),
+    )
 
 -- ---- nodes
 
@@ -227,7 +242,7 @@ labels_again total xs b rest sp =
     let hd = list_head (length xs) sp.0 sp.2 in
     let items = sp.1 in
     let e : b ++ rest ≡ hd.mark ∷ (hd.more ++ (items ++ rest)) =
-        ap (λ (z : List ℕ). z ++ rest) sp.4 ∙ append_assoc sp.0 items rest ∙ ap (λ (z : List ℕ). z ++ (items ++ rest)) hd.is in
+    ap (λ (z : List ℕ). z ++ rest) sp.4 ∙ append_assoc sp.0 items rest ∙ ap (λ (z : List ℕ). z ++ (items ++ rest)) hd.is in
     ap (labels_at total) e
     ∙ rw (hd.marks, hd.reads (total - length (hd.mark ∷ (hd.more ++ (items ++ rest)))) (items ++ rest)) (items_again (label_at total) Label (label_again total) xs items rest sp.3)
 
@@ -244,11 +259,13 @@ unfolding fields_at tag_at
 fields_again total inside spelled h n b sp =
     let i = sp.0 in
     let l = sp.1 in
-    let p = sp.2 in
-    (0x4E ∷ ((i ++ l) ++ p), sp.6,
-     λ rest.
-        let e : ((i ++ l) ++ p) ++ rest ≡ i ++ (l ++ (p ++ rest)) = append_assoc (i ++ l) p rest ∙ append_assoc i l (p ++ rest) in
-        rw (e, id_again total n.id i (l ++ (p ++ rest)) sp.3, labels_again total n.labels l (p ++ rest) sp.4, props_again total inside spelled.dict h n.props p rest sp.5) refl)
+    let p = sp.2 in (
+      0x4E ∷ ((i ++ l) ++ p),
+      sp.6,
+      λ rest.
+          let e : ((i ++ l) ++ p) ++ rest ≡ i ++ (l ++ (p ++ rest)) = append_assoc (i ++ l) p rest ∙ append_assoc i l (p ++ rest) in
+          rw (e, id_again total n.id i (l ++ (p ++ rest)) sp.3, labels_again total n.labels l (p ++ rest) sp.4, props_again total inside spelled.dict h n.props p rest sp.5) refl,
+    )
 
 node_again : (total d : ℕ) → SizedAgain k.Dict (within total d).dict (levels d).dict → NodeAgain (within total (suc d)).node (levels (suc d)).node
 unfolding within levels

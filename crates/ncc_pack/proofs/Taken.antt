@@ -1,5 +1,5 @@
 -- What is read is spelled so.
-use Rattle.std.proofs.Common.{◌≡◌, ℕ, zero, suc, ◌+◌, ◌-◌, ◌^◌, ◌<◌, ◌≤◌, Bool, true, false, not, ◌&&◌, IsTrue, cond, ltb, eqb, List, [], ◌∷◌, ◌++◌, length, take, drop, Result, Ok, Err, refl, sym, ap, subst, ◌∙◌, append_assoc, arith}
+use Rattle.std.proofs.Common.{◌≡◌, ℕ, zero, suc, ◌+◌, ◌-◌, ◌^◌, ◌<◌, ◌≤◌, Bool, true, false, not, ◌&&◌, IsTrue, cond, eqb, List, [], ◌∷◌, ◌++◌, length, take, drop, Result, Ok, Err, refl, sym, ap, subst, ◌∙◌, append_assoc, arith}
 use Rattle.std.specs.Prelude.{ℤ, pos, negsuc, IsUtf8, nat_lt, ◌==◌}
 use Rattle.std.specs.Int.{Width, w8, w16, w32, w64, from_be_bytes, to_be_bytes, cast_signed}
 use Rattle.std.specs.List.{list_any}
@@ -292,9 +292,9 @@ pairs_taken total value R h earlier zero bytes y fits e =
     (record { front = []; spells = refl; parts = refl; rest_fits = fits }, refl, refl)
 pairs_taken total value R h earlier (suc n) bytes y fits e =
     let a = bind_ok (key_at total bytes) (λ key. cond (list_any (bytes_eq key.0) earlier) (Err (RepeatedKey (total - length bytes)))
-        (value key.1 >>= λ x. pairs_at total value (earlier ++ key.0 ∷ []) n x.1 >>= λ more. Ok ((key.0, x.0) ∷ more.0, more.1))) y e in
+    (value key.1 >>= λ x. pairs_at total value (earlier ++ key.0 ∷ []) n x.1 >>= λ more. Ok ((key.0, x.0) ∷ more.0, more.1))) y e in
     let g = guard_err (list_any (bytes_eq a.0.0) earlier) (RepeatedKey (total - length bytes))
-        (value a.0.1 >>= λ x. pairs_at total value (earlier ++ a.0.0 ∷ []) n x.1 >>= λ more. Ok ((a.0.0, x.0) ∷ more.0, more.1)) y a.2 in
+    (value a.0.1 >>= λ x. pairs_at total value (earlier ++ a.0.0 ∷ []) n x.1 >>= λ more. Ok ((a.0.0, x.0) ∷ more.0, more.1)) y a.2 in
     let b = bind_ok (value a.0.1) (λ x. pairs_at total value (earlier ++ a.0.0 ∷ []) n x.1 >>= λ more. Ok ((a.0.0, x.0) ∷ more.0, more.1)) y g.1 in
     let c = bind_ok (pairs_at total value (earlier ++ a.0.0 ∷ []) n b.0.1) (λ more. Ok ((a.0.0, b.0.0) ∷ more.0, more.1)) y b.2 in
     let key = key_taken total bytes a.0 fits a.1 in
@@ -302,9 +302,11 @@ pairs_taken total value R h earlier (suc n) bytes y fits e =
     let r = pairs_taken total value R h (earlier ++ a.0.0 ∷ []) n b.0.1 c.0 x.rest_fits c.1 in
     let front : bytes ≡ (key.front ++ x.front) ++ b.0.1 = key.parts ∙ ap (λ (z : List ℕ). key.front ++ z) x.parts ∙ sym (append_assoc key.front x.front b.0.1) in
     let parts : bytes ≡ ((key.front ++ x.front) ++ r.0.front) ++ c.0.1 = front ∙ ap (λ (z : List ℕ). (key.front ++ x.front) ++ z) r.0.parts ∙ sym (append_assoc (key.front ++ x.front) r.0.front c.0.1) in
-    subst (λ (z : List (List ℕ × Value) × List ℕ). Takes (Each (Pair R)) bytes z × (length z.0 ≡ suc n) × IsTrue (distinct earlier z.0)) (ok_is ((a.0.0, b.0.0) ∷ c.0.0, c.0.1) y c.2)
-    (record { front = (key.front ++ x.front) ++ r.0.front; spells = (key.front ++ x.front, r.0.front, (key.front, x.front, key.spells, x.spells, refl), r.0.spells, refl); parts = parts; rest_fits = r.0.rest_fits },
-     ap suc r.1, new_key (list_any (bytes_eq a.0.0) earlier) (distinct (earlier ++ a.0.0 ∷ []) c.0.0) g.0 r.2)
+    subst (λ (z : List (List ℕ × Value) × List ℕ). Takes (Each (Pair R)) bytes z × (length z.0 ≡ suc n) × IsTrue (distinct earlier z.0)) (ok_is ((a.0.0, b.0.0) ∷ c.0.0, c.0.1) y c.2) (
+      record { front = (key.front ++ x.front) ++ r.0.front; spells = (key.front ++ x.front, r.0.front, (key.front, x.front, key.spells, x.spells, refl), r.0.spells, refl); parts = parts; rest_fits = r.0.rest_fits },
+      ap suc r.1,
+      new_key (list_any (bytes_eq a.0.0) earlier) (distinct (earlier ++ a.0.0 ∷ []) c.0.0) g.0 r.2,
+    )
 
 -- a head and what it counts
 counted : {A : Type 0} (kind : Kind) (R : A → List ℕ → Type 0) (bytes : List ℕ) (a : ℕ × List ℕ) (y : List A × List ℕ) → Takes (IsHead kind) bytes a → Takes (Each R) a.1 y → length y.0 ≡ a.0 → Takes (Listed kind R) bytes y
@@ -401,8 +403,8 @@ node_taken total inside spelled h bytes y fits e =
     let l = labels_taken total b.0.1 c.0 i.rest_fits c.1 in
     let p = props_taken total inside spelled.dict h c.0.1 d.0 l.rest_fits d.1 in
     let inner : a.0 ≡ ((i.front ++ l.front) ++ p.front) ++ d.0.1 =
-        i.parts ∙ ap (λ (z : List ℕ). i.front ++ z) (l.parts ∙ ap (λ (z : List ℕ). l.front ++ z) p.parts)
-        ∙ sym (append_assoc i.front l.front (p.front ++ d.0.1)) ∙ sym (append_assoc (i.front ++ l.front) p.front d.0.1) in
+    i.parts ∙ ap (λ (z : List ℕ). i.front ++ z) (l.parts ∙ ap (λ (z : List ℕ). l.front ++ z) p.parts)
+    ∙ sym (append_assoc i.front l.front (p.front ++ d.0.1)) ∙ sym (append_assoc (i.front ++ l.front) p.front d.0.1) in
     let parts : 0xB3 ∷ bytes ≡ (0xB3 ∷ 0x4E ∷ ((i.front ++ l.front) ++ p.front)) ++ d.0.1 = ap (λ (z : List ℕ). 0xB3 ∷ z) (tag.0 ∙ ap (λ (z : List ℕ). 0x4E ∷ z) inner) in
     subst (λ (z : NodeValue × List ℕ). Takes (Fields spelled) (0xB3 ∷ bytes) z) (ok_is (made b.0.0 c.0.0 d.0.0, d.0.1) y d.2)
     (record { front = 0xB3 ∷ 0x4E ∷ ((i.front ++ l.front) ++ p.front); spells = (i.front, l.front, p.front, i.spells, l.spells, p.spells, refl); parts = parts; rest_fits = p.rest_fits })

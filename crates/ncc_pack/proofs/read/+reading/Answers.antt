@@ -1,8 +1,8 @@
-use Rattle.std.proofs.Common.{◌≡◌, ◌-◌, ◌<◌, true, false, refl, sym, ◌∙◌, arith}
+use Rattle.std.proofs.Common.{◌≡◌, ◌<◌, true, false, refl, sym, ◌∙◌, arith}
 use Rattle.std.specs.List.{list_any}
 use Rattle.std.specs.Str.{bytes_eq}
 use Rattle.std.proofs.lemmas.Result.{err_from_is_err_and}
-use Rattle.ncc_pack.specs.Reading.{value_at, items_at, pairs_at, size_at}
+use Rattle.ncc_pack.specs.Reading.{value_at, size_at}
 use Rattle.ncc_pack.proofs.Lists.{goes_on, ends, is_done, fails_on, list_more, list_none, dict_more, dict_none, node_more, node_none}
 use Rattle.ncc_pack.proofs.Keyed as keyed
 use Rattle.ncc_pack.proofs.Keyed.{keys, has, in_set, not_in_set, one_more, key_fails, repeats, value_fails}
