@@ -1,6 +1,7 @@
 //! The parts of a value that hold no other: numbers, sizes, bytes, texts, keys, labels and a node's number.
 
-ghost use Rattle.std.specs.Prelude.{◌≡◌, ◌++◌, ◌∷◌, [], take, length, ◌<◌};
+ghost use Rattle.std.specs.Prelude.{◌≡◌, ◌++◌, ◌∷◌, [], take, drop, length, is_some, ◌<◌, ◌≤◌};
+ghost use Rattle.std.specs.Str.Lossy.{utf8_valid_len, utf8_error_len};
 ghost use Rattle.std.specs.Int.{w8, w16, w32, w64, from_be_bytes};
 ghost use Rattle.ncc_pack.specs.Reading.{Gives, number_at, size_at, bytes_at, text_at, id_at, key_at, label_at, tag_at, other_kind, sequence_len, cut_text};
 
@@ -119,17 +120,27 @@ fn sequence_len(bytes: &[u8]) -> usize
     }
 }
 
+/// How many bytes in front are UTF-8, and whether those behind them are ill-formed already.
+#[tactic(auto, using(crate::proofs::Texts::all_well, crate::proofs::Texts::none_ill, crate::proofs::Texts::well_le))]
+fn well_formed(bytes: &[u8]) -> (usize, bool)
+    ensures inside { result.0 ≤ length bytes.now }
+    ensures len { result.0 ≡ utf8_valid_len bytes.now }
+    ensures ill { result.1 ≡ is_some (utf8_error_len (drop (utf8_valid_len bytes.now) bytes.now)) }
+{
+    match str::from_utf8(bytes) {
+        Ok(_) => (bytes.len(), false),
+        Err(e) => (e.valid_up_to(), e.error_len().is_some()),
+    }
+}
+
 /// The fault of a text of so many bytes whose bytes end too early.
 fn cut_text(total: usize, len: usize, bytes: &[u8]) -> PackError
     requires { length bytes.now < len }
     ensures { result ≡ cut_text total len bytes.now }
 {
-    let (valid, broken) = match str::from_utf8(bytes) {
-        Ok(_) => (bytes.len(), false),
-        Err(e) => (e.valid_up_to(), e.error_len().is_some()),
-    };
+    let (valid, ill) = well_formed(bytes);
     let last = sequence_len(&bytes[valid..]);
-    if broken || len - valid < last {
+    if ill || len - valid < last {
         let at = total.saturating_sub(bytes.len() - valid) as u64;
         return PackError::BadUtf8 { at };
     }
@@ -137,7 +148,7 @@ fn cut_text(total: usize, len: usize, bytes: &[u8]) -> PackError
 }
 
 /// A text of so many bytes, as a part of these bytes.
-#[tactic(auto, unfolding(crate::specs::Reading::text_at))]
+#[tactic(auto, unfolding(crate::specs::Reading::text_at), using(crate::proofs::Texts::text_whole))]
 pub(crate) fn str_of(total: usize, len: usize, bytes: &[u8]) -> Result<(&str, &[u8]), PackError>
     ensures { Gives (λ x. (x.0.now, x.1.now)) result (text_at total len bytes.now) }
 {

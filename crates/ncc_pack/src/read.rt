@@ -269,3 +269,8 @@ pub fn decode(alloc: Global, bytes: &[u8]) -> Result<(Value, usize), PackError>
     let (value, rest) = value_of(alloc, bytes.len(), MAX_DEPTH, bytes)?;
     Ok((value, bytes.len() - rest.len()))
 }
+
+/// No spelling begins another.
+pub fn one_form()
+    ensures { (x y : Value) (a b r s : List ℕ) → spells x a → spells y b → a ++ r ≡ b ++ s → (x ≡ y) × (a ≡ b) }
+{}

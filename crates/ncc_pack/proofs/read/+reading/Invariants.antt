@@ -1,0 +1,39 @@
+use Rattle.std.proofs.Common.{◌≡◌, ◌+◌, ◌*◌, ◌-◌, ℕ, List, []}
+use Rattle.std.specs.List.{list_any}
+use Rattle.std.specs.Str.{bytes_eq}
+use Rattle.ncc_pack.specs.Reading.{items_at, pairs_at, value_at}
+use Rattle.ncc_pack.proofs.Lists.{with_front}
+use Rattle.ncc_pack.proofs.Keyed.{keys, has}
+use Rattle.ncc_pack.proofs.read.+reading.Given as goal
+
+abbrev pub invariant-items_of-loop : goal.invariant-items_of-loop
+invariant-items_of-loop l = with_front l.items (items_at (value_at l.total l.depth) (l.count - l.counter) l.rest) ≡ items_at (value_at l.total l.depth) l.count l.bytes
+
+-- the set holds the keys so far
+abbrev pub invariant-pairs_of-loop : goal.invariant-pairs_of-loop
+invariant-pairs_of-loop l = (with_front l.pairs (pairs_at l.total (value_at l.total l.depth) (keys l.pairs) (l.count - l.counter) l.rest) ≡ pairs_at l.total (value_at l.total l.depth) [] l.count l.bytes)
+    × ((q : List ℕ) → has l.seen q ≡ list_any (bytes_eq q) (keys l.pairs))
+
+abbrev pub decreases-value_of : goal.decreases-value_of
+decreases-value_of l = 5 * l.depth + 4
+
+abbrev pub decreases-node_of : goal.decreases-node_of
+decreases-node_of l = 5 * l.depth + 3
+
+abbrev pub decreases-fields_of : goal.decreases-fields_of
+decreases-fields_of l = 5 * l.depth + 3
+
+abbrev pub decreases-props_of : goal.decreases-props_of
+decreases-props_of l = 5 * l.depth + 2
+
+abbrev pub decreases-dict_of : goal.decreases-dict_of
+decreases-dict_of l = 5 * l.depth + 1
+
+abbrev pub decreases-list_of : goal.decreases-list_of
+decreases-list_of l = 5 * l.depth + 1
+
+abbrev pub decreases-pairs_of : goal.decreases-pairs_of
+decreases-pairs_of l = 5 * l.depth + 5
+
+abbrev pub decreases-items_of : goal.decreases-items_of
+decreases-items_of l = 5 * l.depth + 5

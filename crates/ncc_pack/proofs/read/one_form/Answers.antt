@@ -1,0 +1,5 @@
+use Rattle.ncc_pack.proofs.Laws.{one_form}
+use Rattle.ncc_pack.proofs.read.one_form.Goals as goal
+
+pub returns : goal.returns
+returns c = one_form 32
