@@ -62,7 +62,7 @@ list_more xs (suc d) lt =
     let e : suc d - 1 ≡ d = omega arith in
     rw (e, length-map xs fit, list_all-map (λ (f : Fit). f.levels d) fit xs) refl
 
-same_keys : (earlier : List (List ℕ)) (ps : List (List ℕ × Value)) → distinct earlier (map fit_pair ps) ≡ distinct earlier ps
+pub same_keys : (earlier : List (List ℕ)) (ps : List (List ℕ × Value)) → distinct earlier (map fit_pair ps) ≡ distinct earlier ps
 same_keys earlier [] = refl
 same_keys earlier (p ∷ ps) = ap (λ (b : Bool). not (list_any (bytes_eq p.0) earlier) && b) (same_keys (earlier ++ p.0 ∷ []) ps)
 

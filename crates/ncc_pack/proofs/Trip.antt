@@ -227,7 +227,7 @@ node_is (suc d) h n f =
 
 layer_is : (d : ℕ) → Held d → (l : Layer) → IsTrue ((fits_step (map-Value Value NodeValue Fit (ℕ → Bool) fit fits_node l)).levels d) → Spells (levels d) (roll-Value l) (short_step (map-Value Value NodeValue (List ℕ) (List ℕ) short short_node l))
 unfolding bytes
-layer_is d h Value-F.Null f = subst (λ (y : Value). Spells (levels d) y _) (sym v.rolls-Null) null
+layer_is d h Value-F.Null f = subst (λ (y : Value). Spells (levels d) y (0xC0 ∷ [])) (sym v.rolls-Null) null
 layer_is d h (Value-F.Bool true) f = subst (λ (y : Value). Spells (levels d) y (0xC3 ∷ [])) (sym (v.rolls-Bool true)) yes
 layer_is d h (Value-F.Bool false) f = subst (λ (y : Value). Spells (levels d) y (0xC2 ∷ [])) (sym (v.rolls-Bool false)) no
 layer_is d h (Value-F.Int z) f = subst (λ (y : Value). Spells (levels d) y (integer z)) (sym (v.rolls-Int z)) (s.int z (integer z) (integer_is z f))
