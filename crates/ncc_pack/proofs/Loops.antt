@@ -136,7 +136,7 @@ node_props n (suc d, h) =
 -- each kind of value, from the value
 
 -- what fits says of each kind
-fit_of : (x : Value) (l : Value-F Value NodeValue) → roll-Value l ≡ x → fit x ≡ fits_step (map-Value Value NodeValue Fit (ℕ → Bool) fit fits_node l)
+pub fit_of : (x : Value) (l : Value-F Value NodeValue) → roll-Value l ≡ x → fit x ≡ fits_step (map-Value Value NodeValue Fit (ℕ → Bool) fit fits_node l)
 fit_of x l e = ap fit (sym e) ∙ fold-roll-Value Fit (ℕ → Bool) fits_step fits_node_step l
 
 levels_by : (x : Value) (f : Fit) (d : ℕ) → fit x ≡ f → IsTrue (fits_within x d) → IsTrue (f.levels d)

@@ -13,7 +13,7 @@ use std::collections::BTreeSet;
 
 const MAX_SIZE: usize = 16_777_216;
 
-const MAX_DEPTH: u8 = 32;
+pub(crate) const MAX_DEPTH: u8 = 32;
 
 // Up to so many pairs, a search through the earlier keys is faster than a set.
 const FEW: usize = 8;
@@ -27,7 +27,7 @@ fn int_fits(number: i64) -> bool
 }
 
 // A text is always UTF-8.
-fn text_fits(text: &Text) -> bool
+pub(crate) fn text_fits(text: &Text) -> bool
     ensures { result ≡ fits_text text.now }
 {
     text.as_str().len() <= MAX_SIZE
@@ -112,7 +112,7 @@ fn all_texts(values: &Values) -> bool
 }
 
 #[cycle(fitting)]
-fn list_fits(values: &Values, depth: u8) -> bool
+pub(crate) fn list_fits(values: &Values, depth: u8) -> bool
     ensures { result ≡ fits_list (map fit values.now) depth }
 {
     if depth == 0 || values.len() > MAX_SIZE {
@@ -141,7 +141,7 @@ fn pairs_fit(pairs: &Dict, depth: u8) -> bool
 
 #[cycle(fitting)]
 #[tactic(auto, using(crate::proofs::Fitting::dict_more))]
-fn dict_fits(pairs: &Dict, depth: u8) -> bool
+pub(crate) fn dict_fits(pairs: &Dict, depth: u8) -> bool
     ensures { result ≡ fits_dict (map fit_pair pairs.now) depth }
 {
     if depth == 0 || pairs.len() > MAX_SIZE {

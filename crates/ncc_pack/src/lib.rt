@@ -1,6 +1,7 @@
 //! PackStream version 1: its values, and the list types that the other crates speak in. Contracts see each as a list.
 #![tactic(auto)]
 
+mod alone;
 mod bytes;
 mod error;
 mod field;
@@ -16,6 +17,10 @@ mod value;
 mod words;
 mod write;
 
+pub use alone::{
+    dict_fits, dict_len, encode_dict, encode_text, encode_values, text_fits, text_len, values_fit,
+    values_len,
+};
 pub use bytes::Bytes;
 pub use error::PackError;
 pub use read::{decode, decode_at, one_form};
@@ -25,4 +30,4 @@ pub use std::alloc::AllocError as Memory;
 pub use text::Text;
 pub use value::{Dict, NodeValue, Value, Values, copy_dict, copy_values};
 pub use words::Words;
-pub use write::{encode, encode_dict, encode_text, encode_values};
+pub use write::encode;

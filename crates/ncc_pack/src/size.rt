@@ -51,7 +51,7 @@ fn head_len(len: usize) -> u64
 }
 
 #[tactic(auto, unfolding(crate::specs::Short::text))]
-fn text_len(written: &Text) -> u64
+pub(crate) fn text_len(written: &Text) -> u64
     requires { length written.now ≤ max_size }
     ensures is { result ≡ length (text written.now) }
     ensures small { result ≤ max_size + 5 }
@@ -70,7 +70,7 @@ fn bytes_len(written: &Bytes) -> u64
 
 #[cycle(measuring)]
 #[tactic(auto, unfolding(crate::specs::Short::list))]
-fn values_len(values: &Values) -> u64
+pub(crate) fn values_len(values: &Values) -> u64
     requires { SomeList values.now }
     ensures { result ≡ min (length (list (map short values.now))) (2 ^ 64 - 1) }
 {
@@ -83,7 +83,7 @@ fn values_len(values: &Values) -> u64
 
 #[cycle(measuring)]
 #[tactic(auto, unfolding(crate::specs::Short::dict))]
-fn dict_len(pairs: &Dict) -> u64
+pub(crate) fn dict_len(pairs: &Dict) -> u64
     requires { SomeDict pairs.now }
     ensures { result ≡ min (length (dict (map short_pair pairs.now))) (2 ^ 64 - 1) }
 {

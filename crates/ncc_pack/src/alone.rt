@@ -1,0 +1,114 @@
+//! A text, a list and a dictionary by themselves, as messages and entries hold them, without a `Value` round them.
+
+ghost use Rattle.std.specs.Prelude.{◌≡◌, ◌++◌, ◌-◌, ◌^◌, min, length, OnOk, OnErr, IsTrue};
+ghost use Rattle.ncc_pack.specs.declared.value.Value.TheVariants as value;
+ghost use Rattle.ncc_pack.specs.Short.{short};
+ghost use Rattle.ncc_pack.specs.Fits.{fits};
+
+use crate::bytes::Bytes;
+use crate::text::Text;
+use crate::value::{Dict, Values};
+use crate::{fit, size, write};
+use std::alloc::AllocError;
+
+/// Says whether a text fits, as `Value::fits` does of a value.
+#[tactic(auto, using(crate::proofs::Single::fits_of_text))]
+pub fn text_fits(text: &Text) -> bool
+    ensures { result ≡ fits (value.Text text.now) }
+{
+    fit::text_fits(text)
+}
+
+/// Says whether a list fits, as `Value::fits` does of a value.
+#[tactic(auto, using(crate::proofs::Single::fits_of_list))]
+pub fn values_fit(values: &Values) -> bool
+    ensures { result ≡ fits (value.List values.now) }
+{
+    fit::list_fits(values, fit::MAX_DEPTH)
+}
+
+/// Says whether a dictionary fits, as `Value::fits` does of a value.
+#[tactic(auto, using(crate::proofs::Single::fits_of_dict))]
+pub fn dict_fits(pairs: &Dict) -> bool
+    ensures { result ≡ fits (value.Dict pairs.now) }
+{
+    fit::dict_fits(pairs, fit::MAX_DEPTH)
+}
+
+/// The length in bytes of the shortest spelling of a text, as `short_len` tells that of a value.
+#[tactic(auto, using(crate::proofs::Loops::text_fits, crate::proofs::Single::short_text_len))]
+pub fn text_len(text: &Text) -> u64
+    requires { IsTrue (fits (value.Text text.now)) }
+    ensures { result ≡ min (length (short (value.Text text.now))) (2 ^ 64 - 1) }
+{
+    size::text_len(text)
+}
+
+/// The length in bytes of the shortest spelling of a list, as `short_len` tells that of a value.
+#[tactic(auto, using(crate::proofs::Loops::list_fits, crate::proofs::Loops::short_list))]
+pub fn values_len(values: &Values) -> u64
+    requires { IsTrue (fits (value.List values.now)) }
+    ensures { result ≡ min (length (short (value.List values.now))) (2 ^ 64 - 1) }
+{
+    size::values_len(values)
+}
+
+/// The length in bytes of the shortest spelling of a dictionary, as `short_len` tells that of a value.
+#[tactic(auto, using(crate::proofs::Loops::dict_fits, crate::proofs::Loops::short_dict))]
+pub fn dict_len(pairs: &Dict) -> u64
+    requires { IsTrue (fits (value.Dict pairs.now)) }
+    ensures { result ≡ min (length (short (value.Dict pairs.now))) (2 ^ 64 - 1) }
+{
+    size::dict_len(pairs)
+}
+
+/// Appends the shortest spelling of a text, as `encode` does that of a value. An `Err` leaves the bytes as they were.
+#[tactic(auto, using(crate::proofs::Loops::text_fits, crate::proofs::Loops::short_text))]
+pub fn encode_text(written: &Text, into: &mut Bytes) -> Result<(), AllocError>
+    requires { IsTrue (fits (value.Text written.now)) }
+    ensures ok { OnOk result (into.new ≡ into.old ++ short (value.Text written.now)) }
+    ensures err { OnErr result (into.new ≡ into.old) }
+{
+    let before = into.len();
+    match write::put_text(written, into) {
+        Ok(()) => Ok(()),
+        Err(error) => {
+            into.truncate(before);
+            Err(error)
+        }
+    }
+}
+
+/// Appends the shortest spelling of a list, as `encode` does that of a value. An `Err` leaves the bytes as they were.
+#[tactic(auto, using(crate::proofs::Loops::list_fits, crate::proofs::Loops::short_list))]
+pub fn encode_values(values: &Values, into: &mut Bytes) -> Result<(), AllocError>
+    requires { IsTrue (fits (value.List values.now)) }
+    ensures ok { OnOk result (into.new ≡ into.old ++ short (value.List values.now)) }
+    ensures err { OnErr result (into.new ≡ into.old) }
+{
+    let before = into.len();
+    match write::put_values(values, into) {
+        Ok(()) => Ok(()),
+        Err(error) => {
+            into.truncate(before);
+            Err(error)
+        }
+    }
+}
+
+/// Appends the shortest spelling of a dictionary, as `encode` does that of a value. An `Err` leaves the bytes as they were.
+#[tactic(auto, using(crate::proofs::Loops::dict_fits, crate::proofs::Loops::short_dict))]
+pub fn encode_dict(pairs: &Dict, into: &mut Bytes) -> Result<(), AllocError>
+    requires { IsTrue (fits (value.Dict pairs.now)) }
+    ensures ok { OnOk result (into.new ≡ into.old ++ short (value.Dict pairs.now)) }
+    ensures err { OnErr result (into.new ≡ into.old) }
+{
+    let before = into.len();
+    match write::put_dict(pairs, into) {
+        Ok(()) => Ok(()),
+        Err(error) => {
+            into.truncate(before);
+            Err(error)
+        }
+    }
+}
