@@ -1,7 +1,7 @@
 //! Runs a script of client requests on the members of a cluster, and reports what came of it.
 #![tactic(auto)]
 
-ghost use Rattle.std.specs.Prelude.{◌≡◌, ◌⊎◌, IfOk, IsErrOf, drop, map};
+ghost use Rattle.std.specs.Prelude.{◌≡◌, ◌⊎◌, IfOk, IsErr, IsErrOf, drop, map};
 ghost use Rattle.ncc_replay.specs.declared.status.Status.{Status as Statuses};
 ghost use Rattle.std.specs.String.{string_bytes};
 
@@ -53,6 +53,7 @@ fn words_behind(alloc: Global, texts: &[String]) -> Result<Words, AllocError>
 // The words of the command line, or how the replay ends without them.
 fn read_words(alloc: Global, texts: io::Result<Vec<String>>) -> Result<Words, Status>
     ensures words { IfOk texts (λ v. IfOk result (λ words. words ≡ map string_bytes (drop 1 v.items))) }
+    ensures bad_words { IsErrOf result Status.BadWords → IsErr texts }
     ensures only { (status : Statuses) → IsErrOf result status → (status ≡ Status.BadWords) ⊎ (status ≡ Status.Memory) }
 {
     match texts {

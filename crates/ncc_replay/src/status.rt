@@ -10,28 +10,46 @@ use std::alloc::{AllocError, Global};
 /// Why a line of a script is refused.
 #[derive(Clone, Copy, Debug, PartialEq, Eq)]
 pub enum Cause {
+    /// The first line that is read is not the header.
     NoHeader,
+    /// The line behind the header says no cluster.
     NoCluster,
+    /// The first word is no verb.
     UnknownVerb,
+    /// The words behind the verb have not its form.
     BadLine,
+    /// A word that should be a bookmark of this cluster is none.
     BadBookmark,
+    /// The verb belongs to the other kind of cluster.
     WrongWorld,
+    /// No member has this number.
     NoMember,
+    /// No connection has this number.
     NoConn,
+    /// No message has this number.
     NoMessage,
+    /// No session has this number.
     NoSession,
+    /// The member is of the wrong kind.
     WrongRole,
+    /// The moment is before the last one.
     BackInTime,
+    /// The session is at work.
     Busy,
 }
 
 /// A number that a script may not pass.
 #[derive(Clone, Copy, Debug, PartialEq, Eq)]
 pub enum Which {
+    /// The lines behind that of the cluster.
     Events,
+    /// The messages that members sent.
     Messages,
+    /// The bytes of these messages.
     MessageBytes,
+    /// The bytes of one line.
     Line,
+    /// The bytes of the script.
     Script,
 }
 
