@@ -1,0 +1,85 @@
+//! Reads a value from standard input, and decodes it, encodes it or asks whether it fits so often. It prints nothing, so
+//! that what starts it can measure it. The words are `decode`, `encode` or `fits`, and how often. The status is 0 where each
+//! pass went through the whole input.
+#![tactic(auto)]
+
+ghost use Rattle.std.specs.Prelude.{IsTrue};
+ghost use Rattle.ncc_pack.specs.Fits.{fits};
+
+use ncc_pack::{Bytes, PackError, Value, decode, encode};
+use std::alloc::{AllocError, Global};
+use std::io::Read;
+use std::process::ExitCode;
+use std::{env, io};
+
+/// The bytes read in so many passes.
+fn decode_often(alloc: Global, bytes: &[u8], times: u32) -> Result<u64, PackError> {
+    let mut sum = 0u64;
+    for _ in 0..times {
+        let (_, len) = decode(alloc, bytes)?;
+        sum = sum.saturating_add(len as u64);
+    }
+    Ok(sum)
+}
+
+/// The bytes written in so many passes, each into bytes of its own.
+fn encode_often(alloc: Global, value: &Value, times: u32) -> Result<u64, AllocError>
+    requires { IsTrue (fits value.now) }
+{
+    let mut sum = 0u64;
+    for _ in 0..times {
+        let mut bytes = Bytes::new(alloc);
+        encode(value, &mut bytes)?;
+        sum = sum.saturating_add(bytes.len() as u64);
+    }
+    Ok(sum)
+}
+
+/// The passes in which a value of so many bytes fitted, times its bytes.
+fn fits_often(value: &Value, len: u64, times: u32) -> u64 {
+    let mut sum = 0u64;
+    for _ in 0..times {
+        if value.fits() {
+            sum = sum.saturating_add(len);
+        }
+    }
+    sum
+}
+
+/// The bytes that all passes went through.
+fn passes(alloc: Global, bytes: &[u8], work: &str, times: u32) -> Result<u64, PackError> {
+    if work == "decode" {
+        return decode_often(alloc, bytes, times);
+    }
+    let (value, len) = decode(alloc, bytes)?;
+    if work == "encode" && value.fits() {
+        return Ok(encode_often(alloc, &value, times)?);
+    }
+    Ok(fits_often(&value, len as u64, times))
+}
+
+/// Says whether all passes went through the whole input.
+fn run(alloc: Global, words: &[String], bytes: &[u8]) -> bool {
+    let [_, work, times] = words else {
+        return false;
+    };
+    let Ok(times) = times.parse::<u32>() else {
+        return false;
+    };
+    let wanted = u64::from(times).saturating_mul(bytes.len() as u64);
+    match passes(alloc, bytes, work.as_str(), times) {
+        Ok(sum) => sum == wanted,
+        Err(_) => false,
+    }
+}
+
+fn main(rt: HostRuntime) -> io::Result<ExitCode> {
+    let words: Vec<String> = env::args(&rt)?.collect(rt.alloc())?;
+    let mut bytes = Vec::new(rt.alloc());
+    rt.reader().read_to_end(&mut bytes)?;
+    if run(rt.alloc(), words.as_slice(), bytes.as_slice()) {
+        Ok(ExitCode::SUCCESS)
+    } else {
+        Ok(ExitCode::FAILURE)
+    }
+}
