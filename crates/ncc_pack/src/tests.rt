@@ -2,7 +2,8 @@
 
 use crate::{
     Bytes, Memory, NodeValue, Sequence, Text, Value, Words, copy_dict, copy_values, decode,
-    decode_at, encode, short_len,
+    decode_at, dict_fits, dict_len, encode, encode_dict, encode_text, encode_values, short_len,
+    text_fits, text_len, values_fit, values_len,
 };
 use std::alloc::Global;
 use std::test::Fail;
@@ -68,17 +69,12 @@ fn words(rt: HostRuntime) -> Result<(), Fail> {
     Ok(())
 }
 
-/// A node whose properties hold one value of each kind.
+/// A node with one label and one property.
 fn sample(alloc: Global) -> Result<Value, Memory> {
     let mut labels = Sequence::new(alloc);
-    labels.push(Value::Text(Text::from_str(alloc, "Person")?))?;
-    let mut list = Sequence::new(alloc);
-    list.push(Value::Null)?;
-    list.push(Value::Bool(true))?;
-    list.push(Value::Bytes(Bytes::from_slice(alloc, &[0, 255])?))?;
+    labels.push(Value::Text(Text::from_str(alloc, "P")?))?;
     let mut props = Sequence::new(alloc);
-    props.push((Text::from_str(alloc, "z")?, Value::Int(-300)))?;
-    props.push((Text::from_str(alloc, "a")?, Value::List(list)))?;
+    props.push((Text::from_str(alloc, "z")?, Value::Null))?;
     Ok(Value::Node(NodeValue {
         id: 7,
         labels,
@@ -86,32 +82,64 @@ fn sample(alloc: Global) -> Result<Value, Memory> {
     }))
 }
 
-const SAMPLE: [u8; 27] = [
-    0xB3, 0x4E, 0x07, 0x91, 0x86, b'P', b'e', b'r', b's', b'o', b'n', 0xA2, 0x81, b'z', 0xC9, 0xFE,
-    0xD4, 0x81, b'a', 0x93, 0xC0, 0xC3, 0xCC, 0x02, 0x00, 0xFF, 0x01,
-];
+const SAMPLE: &[u8] = b"\xB3\x4E\x07\x91\x81P\xA1\x81z\xC0";
 
 #[test]
-fn values(rt: HostRuntime) -> Result<(), Fail> {
+fn values_are_written(rt: HostRuntime) -> Result<(), Fail> {
     let value = sample(rt.alloc())?;
     let copy = value.copy()?;
     assert!(rt; copy.fits());
-    assert_eq!(rt; short_len(&copy), 26);
+    assert_eq!(rt; short_len(&copy), 10);
     let mut bytes = Bytes::from_slice(rt.alloc(), &[9])?;
     encode(&copy, &mut bytes)?;
-    bytes.push(1)?;
-    assert_eq!(rt; &bytes.as_slice()[1..], SAMPLE.as_slice());
-    let (whole, len) = decode(rt.alloc(), &bytes.as_slice()[1..])?;
-    assert_eq!(rt; len, 26);
-    let (inner, len) = decode_at(rt.alloc(), bytes.as_slice(), 1)?;
-    assert_eq!(rt; len, 26);
-    for (of, want) in [whole, inner].iter().zip(["the whole", "the part"]) {
-        let mut again = Bytes::new(rt.alloc());
-        encode(of, &mut again)?;
-        assert_eq!(rt; again.as_slice(), &SAMPLE[..26], "in {want}");
-    }
+    assert_eq!(rt; &bytes.as_slice()[1..], SAMPLE);
     bytes.truncate(1);
     assert_eq!(rt; bytes.as_slice(), [9u8].as_slice());
+    Ok(())
+}
+
+/// Says whether a value is the sample.
+fn is_sample(value: &Value, bytes: &mut Bytes) -> Result<bool, Memory> {
+    bytes.truncate(0);
+    if value.fits() {
+        encode(value, bytes)?;
+    }
+    Ok(bytes.as_slice() == SAMPLE)
+}
+
+#[test]
+fn values_are_read(rt: HostRuntime) -> Result<(), Fail> {
+    let mut again = Bytes::new(rt.alloc());
+    let (value, len) = decode(rt.alloc(), SAMPLE)?;
+    assert_eq!(rt; len, 10);
+    assert!(rt; is_sample(&value, &mut again)?);
+    let mut longer = Bytes::from_slice(rt.alloc(), &[9])?;
+    longer.extend(SAMPLE)?;
+    longer.push(1)?;
+    let (value, len) = decode_at(rt.alloc(), longer.as_slice(), 1)?;
+    assert_eq!(rt; len, 10);
+    assert!(rt; is_sample(&value, &mut again)?);
+    Ok(())
+}
+
+#[test]
+fn parts_of_messages(rt: HostRuntime) -> Result<(), Fail> {
+    let mut bytes = Bytes::new(rt.alloc());
+    let text = Text::from_str(rt.alloc(), "k")?;
+    assert!(rt; text_fits(&text));
+    assert_eq!(rt; text_len(&text), 2);
+    encode_text(&text, &mut bytes)?;
+    let mut values = Sequence::new(rt.alloc());
+    values.push(Value::Null)?;
+    assert!(rt; values_fit(&values));
+    assert_eq!(rt; values_len(&values), 2);
+    encode_values(&values, &mut bytes)?;
+    let mut pairs = Sequence::new(rt.alloc());
+    pairs.push((text, Value::Null))?;
+    assert!(rt; dict_fits(&pairs));
+    assert_eq!(rt; dict_len(&pairs), 4);
+    encode_dict(&pairs, &mut bytes)?;
+    assert_eq!(rt; bytes.as_slice(), b"\x81k\x91\xC0\xA1\x81k\xC0".as_slice());
     Ok(())
 }
 
