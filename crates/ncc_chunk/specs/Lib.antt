@@ -1,0 +1,4 @@
+pub mod Handshake
+pub mod Chunks
+pub mod Inflow
+pub mod Chunked
