@@ -1,7 +1,7 @@
 -- A stream is one list of messages and one rest.
-use Rattle.std.proofs.Common.{◌≡◌, ◌≢◌, ℕ, ◌+◌, ◌*◌, ◌<◌, ◌≤◌, List, [], ◌∷◌, ◌++◌, length, ◌⊎◌, inl, inr, refl, sym, ap, subst, ◌∙◌, append_assoc, append-nil, length-append, arith}
-use Rattle.ncc_chunk.specs.Chunks.{size_of, Chunks, none, chunk, limit, Spells, HoldsNone, Framed, nothing, no_op, message, PastLimit}
-use Rattle.ncc_chunk.proofs.WholeChunks.{Onward, compare, end_first, IsCut, size_in, cut_then, head_of, head_within}
+use Rattle.std.proofs.Common.{◌≡◌, ℕ, ◌+◌, ◌≤◌, List, [], ◌∷◌, ◌++◌, length, inl, inr, refl, sym, ap, ◌∙◌, append_assoc, append-nil, length-append, arith}
+use Rattle.ncc_chunk.specs.Chunks.{Chunks, none, limit, Spells, HoldsNone, Framed, nothing, no_op, message, PastLimit}
+use Rattle.ncc_chunk.proofs.WholeChunks.{compare, end_first, IsCut, size_in, cut_then, head_of, head_within}
 
 -- the bytes of a message and what stands behind
 behind : (m s x : List ℕ) → (w : Spells m s) → s ++ x ≡ w.chunks ++ 0 ∷ 0 ∷ x

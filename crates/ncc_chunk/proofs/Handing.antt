@@ -1,13 +1,13 @@
 -- When a message is handed out, and why not.
-use Rattle.std.proofs.Common.{◌≡◌, ◌≢◌, ℕ, ◌+◌, ◌<◌, ◌≤◌, Bool, true, false, Option, Some, None, List, [], ◌∷◌, ◌++◌, length, drop, ◌⊎◌, inl, inr, refl, sym, ap, subst, ◌∙◌, append_assoc, append-nil, length-append, arith}
+use Rattle.std.proofs.Common.{◌≡◌, ℕ, ◌<◌, Some, None, List, [], ◌∷◌, ◌++◌, length, drop, ◌⊎◌, inl, inr, refl, sym, ap, subst, ◌∙◌, append-nil, length-append, arith}
 use Rattle.std.proofs.lemmas.List.{append_cancel_left}
 use Rattle.ncc_chunk.specs.declared.dechunker.Place.{Place}
 use Rattle.ncc_chunk.specs.declared.dechunker.Place.TheVariants.{Between, InHead, InBody, Stopped}
-use Rattle.ncc_chunk.specs.declared.dechunker.Dechunk.{Dechunk}
 use Rattle.ncc_chunk.specs.declared.dechunker.Dechunk.TheVariants.{Again, TooLong}
-use Rattle.ncc_chunk.specs.Chunks.{size_of, Chunks, none, limit, Framed, nothing, PastLimit, EndsAfter, IsTooLongAfter, IsBetweenMessages}
-use Rattle.ncc_chunk.specs.Inflow.{Inflow, IsInBody, IsInHead, IsBetween, Holds, Stands, missing_at, first_of}
-use Rattle.ncc_chunk.proofs.Framing.{framed_same, not_past_cut, none_in_cut}
+use Rattle.ncc_chunk.specs.Chunks.{none, Framed, nothing, PastLimit, EndsAfter, IsTooLongAfter, IsBetweenMessages}
+use Rattle.ncc_chunk.specs.Inflow.{Inflow, IsBetween, Holds, Stands}
+use Rattle.ncc_chunk.specs.Keeping.{missing_at, first_of}
+use Rattle.ncc_chunk.proofs.Framing.{framed_same, not_past_cut}
 use Rattle.ncc_chunk.proofs.Steps.{chunks_in_none, chunks_of_none, holds_none}
 
 pub first_some : (xs : List (List ℕ)) (m : List ℕ) → Some m ≡ first_of xs → xs ≡ m ∷ drop 1 xs

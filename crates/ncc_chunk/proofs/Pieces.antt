@@ -1,10 +1,10 @@
 -- The chunks that a message is sent in.
-use Rattle.std.proofs.Common.{◌≡◌, ℕ, zero, suc, ◌+◌, ◌*◌, ◌/◌, ◌%◌, ◌<◌, ◌≤◌, Bool, true, false, cond, List, [], ◌∷◌, ◌++◌, length, take, drop, ◌⊎◌, inl, inr, refl, sym, ap, subst, ◌∙◌, append_assoc, append-nil, length-append, length-take, length-drop, arith}
+use Rattle.std.proofs.Common.{◌≡◌, ℕ, zero, suc, ◌/◌, ◌%◌, ◌<◌, ◌≤◌, Bool, true, false, cond, List, [], ◌∷◌, ◌++◌, length, take, drop, inl, inr, refl, sym, ap, subst, ◌∙◌, append-nil, length-take, length-drop, arith}
 use Rattle.std.specs.Prelude.{nat_lt}
 use Rattle.std.proofs.lemmas.Bool.{cases_lt}
 use Rattle.std.proofs.lemmas.Bool.Decides.{nat_tests}
 use Rattle.std.proofs.lemmas.List.{take-append-drop}
-use Rattle.ncc_chunk.specs.Chunks.{size_of, Chunks, none, chunk, limit, Spells, Framed, message}
+use Rattle.ncc_chunk.specs.Chunks.{size_of, Chunks, none, chunk, limit, Framed, message}
 use Rattle.ncc_chunk.specs.Chunked.{most, chunk_of, chunks_by, chunks_of, chunked}
 
 at_true : (b : Bool) (x y : List ℕ) → b ≡ true → cond b x y ≡ x

@@ -1,5 +1,5 @@
 -- The handshake's answer and its bytes, as one more byte comes.
-use Rattle.std.proofs.Common.{◌≡◌, ◌≢◌, ℕ, ◌+◌, ◌<◌, ◌≤◌, Bool, true, false, cond, List, [], ◌∷◌, ◌++◌, length, take, drop, ◌⊎◌, inl, inr, refl, sym, ap, ◌∙◌, append-nil, append_assoc, length-append, arith}
+use Rattle.std.proofs.Common.{◌≡◌, ◌≢◌, ℕ, ◌<◌, ◌≤◌, Bool, true, false, cond, List, [], ◌∷◌, ◌++◌, length, take, ◌⊎◌, inl, inr, refl, sym, ap, ◌∙◌, length-append, arith}
 use Rattle.std.specs.Prelude.{nat_lt, bytes_eq}
 use Rattle.std.specs.List.{list_any}
 use Rattle.std.proofs.lemmas.Bool.{ltb-true, ltb-false, cases_lt}
@@ -7,7 +7,7 @@ use Rattle.std.proofs.Math.Seq.{take_all}
 use Rattle.std.proofs.lemmas.List.{take-append-le, take-take, length-take}
 use Rattle.ncc_chunk.specs.declared.handshake.Shake.{Shake}
 use Rattle.ncc_chunk.specs.declared.handshake.Shake.TheVariants.{More, Chosen, BadMagic, NoVersion}
-use Rattle.ncc_chunk.specs.Handshake.{magic, covers, proposals, answer_to, answer_to_proposals, handshake_of}
+use Rattle.ncc_chunk.specs.Handshake.{magic, covers, proposals, answer_to, handshake_of}
 
 -- the answer by its three tests: fewer than 4, the magic, fewer than 20, and a proposal that covers
 more_by : (few whole less some : Bool) → cond few More (cond whole (cond less More (cond some Chosen NoVersion)) BadMagic) ≡ More → (few ≡ true) ⊎ ((whole ≡ true) × (less ≡ true))

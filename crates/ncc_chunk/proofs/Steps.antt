@@ -1,11 +1,12 @@
 -- What each step of a dechunker leaves.
-use Rattle.std.proofs.Common.{◌≡◌, ◌≢◌, ℕ, zero, suc, ◌+◌, ◌-◌, ◌*◌, ◌<◌, ◌≤◌, Bool, true, false, List, [], ◌∷◌, ◌++◌, length, drop, ◌⊎◌, inl, inr, refl, sym, ap, subst, ◌∙◌, append_assoc, append-nil, length-append, arith}
+use Rattle.std.proofs.Common.{◌≡◌, ℕ, zero, suc, ◌+◌, ◌-◌, ◌<◌, ◌≤◌, List, [], ◌∷◌, ◌++◌, length, refl, sym, ap, subst, ◌∙◌, append_assoc, append-nil, length-append, arith}
 use Rattle.ncc_chunk.specs.declared.dechunker.Place.{Place}
 use Rattle.ncc_chunk.specs.declared.dechunker.Place.TheVariants.{Between, InHead, InBody, Stopped}
 use Rattle.ncc_chunk.specs.Chunks.{size_of, Chunks, none, chunk, limit, Spells, HoldsNone, Framed, nothing, no_op, message, PastLimit}
-use Rattle.ncc_chunk.specs.Inflow.{Inflow, IsInBody, IsInHead, IsBetween, Holds, Stands, Begins, Took, place_by, grown, ready_with, ended}
+use Rattle.ncc_chunk.specs.Inflow.{Inflow, IsInBody, IsInHead, IsBetween, Holds, Stands}
+use Rattle.ncc_chunk.specs.Keeping.{Begins, Took, place_by, grown, ready_with, ended}
 use Rattle.ncc_chunk.proofs.Lists.{begins_grown, begins_next, begins_over}
-use Rattle.ncc_chunk.proofs.WholeChunks.{chunks_join, IsCut, size_in}
+use Rattle.ncc_chunk.proofs.WholeChunks.{chunks_join}
 use Rattle.ncc_chunk.proofs.Framing.{framed_on, none_in_cut, none_in_past, past_on}
 
 -- what is held is no whole message

@@ -1,7 +1,7 @@
 -- Chunks, one behind the other, and what may stand behind them.
-use Rattle.std.proofs.Common.{◌≡◌, ℕ, ◌+◌, ◌*◌, ◌<◌, ◌≤◌, List, [], ◌∷◌, ◌++◌, length, ◌⊎◌, inl, inr, refl, sym, ap, subst, ◌∙◌, append_assoc, append-nil, length-append, arith}
+use Rattle.std.proofs.Common.{◌≡◌, ℕ, ◌<◌, ◌≤◌, List, [], ◌∷◌, ◌++◌, length, ◌⊎◌, inl, inr, refl, sym, ap, ◌∙◌, append_assoc, length-append, arith}
 use Rattle.ncc_chunk.proofs.Lists.{split_same}
-use Rattle.ncc_chunk.specs.Chunks.{size_of, Chunks, none, chunk, limit, Spells, HoldsNone, Framed, nothing, no_op, message, PastLimit}
+use Rattle.ncc_chunk.specs.Chunks.{size_of, Chunks, none, chunk}
 
 pub chunks_join : (m c n d : List ℕ) → Chunks m c → Chunks n d → Chunks (m ++ n) (c ++ d)
 chunks_join m c n d none q = q

@@ -1,4 +1,4 @@
-//! The chunks that go out.
+//! The chunks that go out, as the Bolt Protocol message specification says in its section on chunking.
 
 ghost use Rattle.std.specs.Prelude.{◌≡◌, ◌≢◌, ◌++◌, ◌∷◌, [], ◌<◌, ◌≤◌, ℕ, List, length, take, drop, OnOk, OnErr};
 ghost use Rattle.ncc_chunk.specs.Chunked.{chunked, chunk_of};
@@ -6,7 +6,7 @@ ghost use Rattle.ncc_chunk.specs.Chunked.{chunked, chunk_of};
 use ncc_pack::{Bytes, Memory};
 
 /// Appends a message in its chunks: of 65,535 bytes while more than that is left, then the rest, then 00 00.
-/// An `Err` leaves `into` as it was.
+/// The message is not empty. An `Err` leaves `into` as it was.
 pub fn chunk(message: &[u8], into: &mut Bytes) -> Result<(), Memory>
     requires { 0 < length message.now }
     ensures ok { OnOk result (into.new ≡ into.old ++ chunked message.now) }

@@ -1,8 +1,9 @@
-//! The chunks that come in.
+//! The chunks that come in, as the Bolt Protocol message specification says in its section on chunking.
 
 ghost use Rattle.std.specs.Prelude.{◌≡◌, ◌≢◌, ◌++◌, ◌∷◌, [], ◌<◌, ◌≤◌, ◌+◌, ◌-◌, ◌⊎◌, ◌↔◌, ℕ, List, length, take, drop, min, map, IfOk, IfNone, IfSome, OnOk, OnErr, Ok, IsErrOf, IsTrue, if◌then◌else◌, nat_le};
 ghost use Rattle.ncc_chunk.specs.Chunks.{Framed, EndsAfter, IsTooLongAfter, IsBetweenMessages, limit};
-ghost use Rattle.ncc_chunk.specs.Inflow.{Inflow, Stands, Took, Begins, HasSome, place_by, grown, ended, missing_at, first_of, without_first};
+ghost use Rattle.ncc_chunk.specs.Inflow.{Inflow, Stands};
+ghost use Rattle.ncc_chunk.specs.Keeping.{Took, Begins, HasSome, place_by, grown, ended, missing_at, first_of, without_first};
 
 use ncc_pack::{Bytes, Memory};
 use std::alloc::{AllocError, Global};
@@ -36,7 +37,9 @@ pub enum Dechunk {
     Memory,
 }
 
-/// The reader of a stream of messages in chunks, fed in any pieces.
+/// The reader of a stream of messages in chunks, fed in any pieces. A chunk is a size of two bytes, the greater first, which
+/// is not 0, and so many bytes; `00 00` ends a message, and is a no-op between messages. Of a message that is not whole
+/// at most 1,048,576 bytes are held.
 #[derive(Drop)]
 pub struct Dechunker {
     ready: VecDeque<Vec<u8>>,
@@ -47,7 +50,8 @@ pub struct Dechunker {
 
 impl Model for Dechunker {
     ghost use Rattle.std.specs.Prelude.{map};
-    ghost use Rattle.ncc_chunk.specs.Inflow.{Inflow, HasSome};
+    ghost use Rattle.ncc_chunk.specs.Inflow.{Inflow};
+    ghost use Rattle.ncc_chunk.specs.Keeping.{HasSome};
 
     ghost Value = { Inflow };
 
@@ -69,7 +73,7 @@ impl Dechunker {
         })
     }
 
-    /// Takes the next piece of the stream. An `Err` changes nothing.
+    /// Takes the next piece of the stream, of any length. An `Err` changes nothing.
     pub fn feed(&mut self, piece: &[u8]) -> Result<(), Memory>
         ensures ok { OnOk result ((stream : List ℕ) (handed : List (List ℕ)) → Stands self.old stream handed → Stands self.new (stream ++ piece.now) handed) }
         ensures err { OnErr result (self.new ≡ self.old) }

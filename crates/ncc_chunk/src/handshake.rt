@@ -1,4 +1,4 @@
-//! The handshake.
+//! The handshake, as the Bolt Protocol handshake specification says.
 
 ghost use Rattle.std.specs.Prelude.{◌≡◌, ◌≢◌, ℕ, List, [], ◌∷◌, ◌++◌, ◌<◌, ◌≤◌, length, take};
 ghost use Rattle.std.specs.List.{list_any};
@@ -8,7 +8,7 @@ use std::marker::Model;
 
 const MAGIC: [u8; 4] = [0x60, 0x60, 0xb0, 0x17];
 
-/// What a handshake has come to.
+/// What a handshake has come to. The Bolt Protocol handshake specification, the section on the negotiation of a version.
 #[derive(Clone, Copy, Debug, PartialEq, Eq)]
 pub enum Shake {
     /// More bytes have to come.
@@ -21,7 +21,8 @@ pub enum Shake {
     NoVersion,
 }
 
-/// A handshake, fed in any pieces. A contract sees the bytes that it took, at most 20.
+/// A handshake, fed in any pieces: the magic `60 60 B0 17` and four proposals of four bytes, a reserved byte that is not
+/// looked at, a range, a minor and a major version. A contract sees the bytes that it took, at most 20.
 #[derive(Drop)]
 pub struct Handshake {
     bytes: [u8; 20],

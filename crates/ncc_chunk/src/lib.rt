@@ -5,6 +5,8 @@ mod chunking;
 mod dechunker;
 mod handshake;
 mod laws;
+#[cfg(test)]
+mod tests;
 
 pub use chunking::chunk;
 pub use dechunker::{Dechunk, Dechunker};

@@ -1,6 +1,6 @@
-use Rattle.std.proofs.Common.{◌≡◌, ◌<◌, ◌≤◌, ◌+◌, ◌++◌, ◌∷◌, [], length, take, drop, refl, sym, ap, ◌∙◌, append_assoc, length-drop, arith}
+use Rattle.std.proofs.Common.{◌≡◌, ◌++◌, ◌∷◌, [], length, take, drop, sym, ap, ◌∙◌, append_assoc, length-drop, arith}
 use Rattle.std.proofs.lemmas.Result.{on_ok_weaker}
-use Rattle.ncc_chunk.specs.Chunked.{chunk_of, chunks_of, chunked}
+use Rattle.ncc_chunk.specs.Chunked.{chunk_of, chunks_of}
 use Rattle.ncc_chunk.proofs.Pieces.{chunks_more, chunks_last}
 use Rattle.ncc_chunk.proofs.chunking.append.Goals as goal
 

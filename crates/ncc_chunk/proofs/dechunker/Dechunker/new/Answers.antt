@@ -1,4 +1,3 @@
-use Rattle.std.proofs.Common.{refl}
 use Rattle.ncc_chunk.proofs.Handing.{stands_new}
 use Rattle.ncc_chunk.proofs.dechunker.Dechunker.new.Goals as goal
 

@@ -1,5 +1,6 @@
-use Rattle.std.proofs.Common.{◌≡◌, ◌<◌, ◌∷◌, [], ℕ, List, Option, Some, None, Ok, Err, length, ◌⊎◌, inl, inr, refl, sym, ap, subst, drop, ◌∙◌}
-use Rattle.ncc_chunk.specs.Inflow.{Inflow, first_of, missing_at}
+use Rattle.std.proofs.Common.{◌≡◌, ◌<◌, ◌∷◌, [], ℕ, List, length, inl, refl, sym, ap, subst, drop, ◌∙◌}
+use Rattle.ncc_chunk.specs.Inflow.{Inflow}
+use Rattle.ncc_chunk.specs.Keeping.{first_of}
 use Rattle.ncc_chunk.proofs.Handing.{first_some, first_none, first_there, not_ends, not_long, whole_is, ends, long, ends_back, long_back, not_whole}
 use Rattle.ncc_chunk.proofs.dechunker.Dechunker.next_message.Goals as goal
 use Rattle.ncc_chunk.proofs.dechunker.Dechunker.next_message.Goals.{After-drop_first, After-missing, In-Err}

@@ -1,4 +1,4 @@
-use Rattle.std.proofs.Common.{◌≡◌, ℕ, ◌+◌, ◌<◌, ◌≤◌, List, [], ◌∷◌, ◌++◌, length, take, map, refl, sym, ap, ◌∙◌, arith}
+use Rattle.std.proofs.Common.{◌≡◌, ℕ, List, take, map, ap, ◌∙◌}
 use Rattle.ncc_chunk.specs.declared.dechunker.Place.{Place}
 use Rattle.ncc_chunk.specs.declared.dechunker.Dechunker.TheInside.{Inside}
 use Rattle.ncc_chunk.specs.Inflow.{Inflow}

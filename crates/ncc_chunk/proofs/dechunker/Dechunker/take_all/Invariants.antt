@@ -1,5 +1,5 @@
 use Rattle.std.proofs.Common.{◌≤◌, ◌-◌, length, take}
-use Rattle.ncc_chunk.specs.Inflow.{Took}
+use Rattle.ncc_chunk.specs.Keeping.{Took}
 use Rattle.ncc_chunk.proofs.dechunker.Dechunker.take_all.Given as goal
 
 abbrev pub invariant-loop-at : goal.invariant-loop-at

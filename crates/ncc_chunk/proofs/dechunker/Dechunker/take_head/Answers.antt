@@ -1,8 +1,8 @@
-use Rattle.std.proofs.Common.{◌≡◌, ◌<◌, ◌≤◌, ◌+◌, ◌*◌, ◌⊎◌, inl, inr, length, refl, sym, ap, ◌∙◌, arith}
+use Rattle.std.proofs.Common.{◌≡◌, ◌+◌, ◌*◌, inl, inr, length, arith}
 use Rattle.std.proofs.lemmas.Bool.{cases_lt}
 use Rattle.std.proofs.lemmas.Result.{on_ok_weaker}
 use Rattle.ncc_chunk.specs.Chunks.{limit, size_of}
-use Rattle.ncc_chunk.specs.Inflow.{Inflow, Took, ended}
+use Rattle.ncc_chunk.specs.Keeping.{ended}
 use Rattle.ncc_chunk.proofs.Steps.{step_end, step_long, step_size}
 use Rattle.ncc_chunk.proofs.dechunker.Dechunker.take_head.Goals as goal
 

@@ -1,7 +1,8 @@
 use Rattle.std.proofs.Common.{◌≡◌, ◌<◌, ◌≤◌, ◌∷◌, [], ℕ, List, length, take, get_or, refl, sym, ap, ◌∙◌, arith, length-take}
 use Rattle.std.proofs.Math.Seq.{take-length}
 use Rattle.std.proofs.lemmas.Result.{IfOk-weaker}
-use Rattle.ncc_chunk.specs.Inflow.{Inflow, grown}
+use Rattle.ncc_chunk.specs.Inflow.{Inflow}
+use Rattle.ncc_chunk.specs.Keeping.{grown}
 use Rattle.ncc_chunk.proofs.Steps.{step_first, step_body, step_stopped}
 use Rattle.ncc_chunk.proofs.dechunker.Dechunker.take_some.Goals as goal
 
