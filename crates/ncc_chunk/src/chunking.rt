@@ -1,6 +1,6 @@
 //! The chunks that go out, as the Bolt Protocol message specification says in its section on chunking.
 
-ghost use Rattle.std.specs.Prelude.{◌≡◌, ◌≢◌, ◌++◌, ◌∷◌, [], ◌<◌, ◌≤◌, ℕ, List, length, take, drop, OnOk, OnErr};
+ghost use Rattle.std.specs.Prelude.{◌≡◌, ◌++◌, ◌<◌, ◌≤◌, length, OnOk, OnErr};
 ghost use Rattle.ncc_chunk.specs.Chunked.{chunked, chunk_of};
 
 use ncc_pack::{Bytes, Memory};

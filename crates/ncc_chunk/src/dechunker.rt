@@ -1,6 +1,6 @@
 //! The chunks that come in, as the Bolt Protocol message specification says in its section on chunking.
 
-ghost use Rattle.std.specs.Prelude.{◌≡◌, ◌≢◌, ◌++◌, ◌∷◌, [], ◌<◌, ◌≤◌, ◌+◌, ◌-◌, ◌⊎◌, ◌↔◌, ℕ, List, length, take, drop, min, map, IfOk, IfNone, IfSome, OnOk, OnErr, Ok, IsErrOf, IsTrue, if◌then◌else◌, nat_le};
+ghost use Rattle.std.specs.Prelude.{◌≡◌, ◌++◌, ◌∷◌, [], ◌<◌, ◌≤◌, ◌+◌, ◌-◌, ◌⊎◌, ◌↔◌, ℕ, List, length, take, drop, min, map, IfOk, IfNone, IfSome, OnOk, OnErr, Ok, IsErrOf, IsTrue};
 ghost use Rattle.ncc_chunk.specs.Chunks.{Framed, EndsAfter, IsTooLongAfter, IsBetweenMessages, limit};
 ghost use Rattle.ncc_chunk.specs.Inflow.{Inflow, Stands};
 ghost use Rattle.ncc_chunk.specs.Keeping.{Took, Begins, HasSome, place_by, grown, ended, missing_at, first_of, without_first};
