@@ -42,7 +42,7 @@ module _ (a : Inflow) (m : List ℕ) (ms : List (List ℕ)) (is : a.ready ≡ m 
       let e = append_cancel_left handed (m ∷ ms) (message ∷ more) (framed_same stream stream (handed ++ m ∷ ms) (handed ++ message ∷ more) k.rest rest refl framed f).0 in cc
 
 -- what is held below the limit is not past it
-holds_fits : (p : Place) (body r : List ℕ) → missing_at p ≡ Again → Holds p body r → PastLimit r → ⊥
+pub holds_fits : (p : Place) (body r : List ℕ) → missing_at p ≡ Again → Holds p body r → PastLimit r → ⊥
 holds_fits Between body r e h o = let f = h.fits in not_past_cut body r [] h.whole tt (omega arith) (subst PastLimit (sym (append-nil r)) o)
 holds_fits (InHead first) body r e h o = let f = h.fits in not_past_cut body h.chunks (first ∷ []) h.whole tt (omega arith) (subst PastLimit h.rest_is o)
 holds_fits (InBody left) body r e h o =
@@ -54,13 +54,13 @@ holds_fits (InBody left) body r e h o =
     not_past_cut h.message h.chunks (h.high ∷ h.low ∷ h.part) h.whole (omega arith) (omega arith) (subst PastLimit h.rest_is o)
 holds_fits Stopped body r e h o = absurd (cc)
 
-holds_long : (p : Place) (body r : List ℕ) → missing_at p ≡ TooLong → Holds p body r → PastLimit r
+pub holds_long : (p : Place) (body r : List ℕ) → missing_at p ≡ TooLong → Holds p body r → PastLimit r
 holds_long Between body r e h = absurd (cc)
 holds_long (InHead _) body r e h = absurd (cc)
 holds_long (InBody _) body r e h = absurd (cc)
 holds_long Stopped body r e h = h
 
-missing_is : (p : Place) → (missing_at p ≡ Again) ⊎ (missing_at p ≡ TooLong)
+pub missing_is : (p : Place) → (missing_at p ≡ Again) ⊎ (missing_at p ≡ TooLong)
 missing_is Between = inl refl
 missing_is (InHead _) = inl refl
 missing_is (InBody _) = inl refl

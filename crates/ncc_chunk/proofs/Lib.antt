@@ -5,3 +5,4 @@ pub mod Framing
 pub mod Steps
 pub mod Handing
 pub mod Pieces
+pub mod Reading

@@ -38,7 +38,7 @@ goes_took a b x go begins = record {
 stays : (a b : Inflow) (x r : List ℕ) → b.ready ≡ a.ready → Holds b.place b.body (r ++ x) → Goes a b x r
 stays a b x r e h = record { messages = []; rest = r ++ x; framed = nothing (holds_none b.place b.body (r ++ x) h); ready_is = e ∙ sym (append-nil a.ready); holds = h }
 
-begins_as : (a : Inflow) → Begins a.ready a.body (a.ready ++ a.body ∷ [])
+pub begins_as : (a : Inflow) → Begins a.ready a.body (a.ready ++ a.body ∷ [])
 begins_as a = subst (λ (b : List ℕ). Begins a.ready a.body (a.ready ++ b ∷ [])) (append-nil a.body) (begins_grown a.ready a.body [])
 
 -- nothing taken

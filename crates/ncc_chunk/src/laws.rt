@@ -1,9 +1,14 @@
 //! What holds of streams of messages.
 
-ghost use Rattle.std.specs.Prelude.{◌≡◌, ◌++◌, ◌∷◌, ◌<◌, ◌≤◌, ℕ, List, length};
+ghost use Rattle.std.specs.Prelude.{◌≡◌, ◌⊎◌, ◌++◌, ◌∷◌, ◌<◌, ◌≤◌, ℕ, List, length};
 ghost use Rattle.ncc_chunk.specs.Handshake.{handshake_of};
-ghost use Rattle.ncc_chunk.specs.Chunks.{Chunks, Framed, IsTooLongAfter, limit};
+ghost use Rattle.ncc_chunk.specs.Chunks.{Chunks, Framed, EndsAfter, IsTooLongAfter, limit};
 ghost use Rattle.ncc_chunk.specs.Chunked.{chunks_of, chunked};
+
+/// Every stream is some messages, behind which it ends or goes on with one that is too long.
+pub fn every_stream_reads()
+    ensures { (stream : List ℕ) → (messages : List (List ℕ)) × (EndsAfter stream messages ⊎ IsTooLongAfter stream messages) }
+{}
 
 /// A stream is these messages and this rest, and no others, so it doesn't matter how it was cut into pieces.
 pub fn messages_are_one()

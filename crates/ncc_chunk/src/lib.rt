@@ -11,4 +11,7 @@ mod tests;
 pub use chunking::chunk;
 pub use dechunker::{Dechunk, Dechunker};
 pub use handshake::{Handshake, Shake};
-pub use laws::{handshake_goes_on, messages_are_one, messages_go_on, sent_is_read, too_long_stays};
+pub use laws::{
+    every_stream_reads, handshake_goes_on, messages_are_one, messages_go_on, sent_is_read,
+    too_long_stays,
+};

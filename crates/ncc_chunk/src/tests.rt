@@ -1,8 +1,8 @@
 //! Streams cut at every place, and handshakes.
 
 use crate::{
-    Dechunk, Dechunker, Handshake, Shake, chunk, handshake_goes_on, messages_are_one,
-    messages_go_on, sent_is_read, too_long_stays,
+    Dechunk, Dechunker, Handshake, Shake, chunk, every_stream_reads, handshake_goes_on,
+    messages_are_one, messages_go_on, sent_is_read, too_long_stays,
 };
 use ncc_pack::{Bytes, Memory};
 use std::alloc::{AllocError, Global};
@@ -39,6 +39,7 @@ fn drain(dechunker: &mut Dechunker, out: &mut Vec<u8>) -> Result<Dechunk, Memory
 
 #[test]
 fn a_stream_at_every_cut(rt: HostRuntime) -> Result<(), Fail> {
+    every_stream_reads();
     messages_are_one();
     messages_go_on();
     for cut in 0..51 {
