@@ -1,0 +1,18 @@
+use Rattle.std.proofs.Common.{take, drop, arith, length-drop}
+use Rattle.std.proofs.lemmas.List.{take_rest}
+use Rattle.std.proofs.Math.Seq.{take-add}
+use Rattle.ncc_chunk.proofs.Steps.{took_none, took_then}
+use Rattle.ncc_chunk.proofs.dechunker.Dechunker.take_all.Goals as goal
+
+pub loop-at-init : goal.loop-at-init
+loop-at-init c = record { within = omega arith; took = took_none c.args.self.now }
+
+pub loop-at-preserved : goal.loop-at-preserved
+loop-at-preserved c =
+    let n = c.in_ok-at.field-0 in
+    let start = c.loop-at.at in
+    let piece = c.args.piece.now in
+    record {
+      within = (let w = rw (take_rest piece start) at c.in_ok-at.ensures.within.1 in let l = length-drop start piece in omega arith);
+      took = rw (take-add start n piece) (took_then c.args.self.now c.loop-at.self c.take_some.new.self (take start piece) (take n (drop start piece)) c.loop-at.invariant.took (rw (take_rest piece start) at c.in_ok-at.ensures.ok));
+    }

@@ -1,0 +1,5 @@
+pub mod Handshake
+pub mod Chunks
+pub mod Inflow
+pub mod Keeping
+pub mod Chunked

@@ -1,0 +1,46 @@
+//! The chunks that go out, as the Bolt Protocol message specification says in its section on chunking.
+
+ghost use Rattle.std.specs.Prelude.{◌≡◌, ◌++◌, ◌<◌, ◌≤◌, length, OnOk, OnErr};
+ghost use Rattle.ncc_chunk.specs.Chunked.{chunked, chunk_of};
+
+use ncc_pack::{Bytes, Memory};
+
+/// Appends a message in its chunks: of 65,535 bytes while more than that is left, then the rest, then 00 00.
+/// The message is not empty. An `Err` leaves `into` as it was.
+pub fn chunk(message: &[u8], into: &mut Bytes) -> Result<(), Memory>
+    requires { 0 < length message.now }
+    ensures ok { OnOk result (into.new ≡ into.old ++ chunked message.now) }
+    ensures err { OnErr result (into.new ≡ into.old) }
+{
+    let mut grown = into.copy()?;
+    append(message, &mut grown)?;
+    *into = grown;
+    Ok(())
+}
+
+// Appends the message in its chunks. An `Err` may leave some of them.
+fn append(message: &[u8], into: &mut Bytes) -> Result<(), Memory>
+    requires { 0 < length message.now }
+    ensures { OnOk result (into.new ≡ into.old ++ chunked message.now) }
+{
+    let mut left = message;
+    while left.len() > 65_535 {
+        let (body, rest) = left.split_at(65_535);
+        append_chunk(body, into)?;
+        left = rest;
+    }
+    append_chunk(left, into)?;
+    into.extend(&[0, 0])
+}
+
+// Appends one chunk. An `Err` may leave its head.
+fn append_chunk(body: &[u8], into: &mut Bytes) -> Result<(), Memory>
+    requires some { 0 < length body.now }
+    requires fits { length body.now ≤ 65535 }
+    ensures { OnOk result (into.new ≡ into.old ++ chunk_of body.now) }
+{
+    let size = body.len();
+    into.push((size / 256) as u8)?;
+    into.push((size % 256) as u8)?;
+    into.extend(body)
+}
