@@ -1,6 +1,7 @@
 //! The chunks that go out, as the Bolt Protocol message specification says in its section on chunking.
 
 ghost use Rattle.std.specs.Prelude.{◌≡◌, ◌++◌, ◌<◌, ◌≤◌, length, OnOk, OnErr};
+ghost use Rattle.ncc_pack.specs.Writing.{Begins};
 ghost use Rattle.ncc_chunk.specs.Chunked.{chunked, chunk_of};
 
 use ncc_pack::{Bytes, Memory};
@@ -12,16 +13,21 @@ pub fn chunk(message: &[u8], into: &mut Bytes) -> Result<(), Memory>
     ensures ok { OnOk result (into.new ≡ into.old ++ chunked message.now) }
     ensures err { OnErr result (into.new ≡ into.old) }
 {
-    let mut grown = into.copy()?;
-    append(message, &mut grown)?;
-    *into = grown;
-    Ok(())
+    let held = into.len();
+    match append(message, into) {
+        Ok(()) => Ok(()),
+        Err(error) => {
+            into.truncate(held);
+            Err(error)
+        }
+    }
 }
 
 // Appends the message in its chunks. An `Err` may leave some of them.
 fn append(message: &[u8], into: &mut Bytes) -> Result<(), Memory>
     requires { 0 < length message.now }
-    ensures { OnOk result (into.new ≡ into.old ++ chunked message.now) }
+    ensures ok { OnOk result (into.new ≡ into.old ++ chunked message.now) }
+    ensures err { OnErr result (Begins into.old into.new) }
 {
     let mut left = message;
     while left.len() > 65_535 {
@@ -37,7 +43,8 @@ fn append(message: &[u8], into: &mut Bytes) -> Result<(), Memory>
 fn append_chunk(body: &[u8], into: &mut Bytes) -> Result<(), Memory>
     requires some { 0 < length body.now }
     requires fits { length body.now ≤ 65535 }
-    ensures { OnOk result (into.new ≡ into.old ++ chunk_of body.now) }
+    ensures ok { OnOk result (into.new ≡ into.old ++ chunk_of body.now) }
+    ensures err { OnErr result (Begins into.old into.new) }
 {
     let size = body.len();
     into.push((size / 256) as u8)?;

@@ -1,5 +1,5 @@
 -- A text, a list and a dictionary by themselves.
-use Rattle.std.proofs.Common.{◌≡◌, ℕ, ◌+◌, ◌≤◌, ◌^◌, Bool, min, List, length, map, sym, ap, ◌∙◌, arith}
+use Rattle.std.proofs.Common.{◌≡◌, ℕ, ◌+◌, ◌≤◌, Bool, min, List, length, map, sym, ap, ◌∙◌, arith}
 use Rattle.ncc_pack.specs.declared.value.Value.{Value}
 use Rattle.ncc_pack.specs.declared.value.Value.TheOpen.{Value-F}
 use Rattle.ncc_pack.specs.declared.value.Value.TheVariants as v

@@ -1,11 +1,11 @@
 -- Sums of lengths that stay at the greatest 64-bit number.
-use Rattle.std.proofs.Common.{◌≡◌, ℕ, ◌+◌, ◌-◌, ◌^◌, ◌<◌, ◌≤◌, min, List, [], ◌∷◌, ◌++◌, length, map, take, refl, sym, ap, ◌∙◌, arith}
+use Rattle.std.proofs.Common.{◌≡◌, ℕ, ◌+◌, ◌-◌, ◌^◌, ◌≤◌, min, List, [], ◌∷◌, ◌++◌, length, map, take, refl, sym, ap, ◌∙◌, arith}
 use Rattle.std.proofs.lemmas.List.{append-nil, length-append, length-map, take_all}
 use Rattle.std.proofs.Common.{append_assoc}
 use Rattle.ncc_pack.specs.declared.value.Value.{Value}
 use Rattle.ncc_pack.specs.declared.value.NodeValue.{NodeValue}
-use Rattle.ncc_pack.specs.Spells.{Kind, lists, dicts, bytes_mark}
-use Rattle.ncc_pack.specs.Short.{head, wide_head, bytes, concat, pairs, text, short, short_pair, short_node, integer, list, dict}
+use Rattle.ncc_pack.specs.Spells.{lists, dicts, bytes_mark}
+use Rattle.ncc_pack.specs.Short.{head, wide_head, bytes, concat, pairs, short, short_pair, short_node, integer, list, dict}
 use Rattle.ncc_pack.proofs.Loops.{node_short_by}
 
 abbrev pub greatest : ℕ

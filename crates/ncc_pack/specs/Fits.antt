@@ -1,7 +1,7 @@
 -- Which values have a spelling: their sizes, their depth, their keys and their labels.
-use Rattle.std.specs.Prelude.{◌≡◌, ℕ, zero, suc, ℤ, pos, negsuc, Bool, true, false, not, ◌&&◌, nat_lt, nat_le, List, [], ◌∷◌, ◌++◌, length, map}
-use Rattle.std.specs.List.{list_all, list_any}
-use Rattle.std.specs.Str.{is_utf8, bytes_eq}
+use Rattle.std.specs.Prelude.{ℕ, zero, suc, ℤ, pos, negsuc, Bool, true, false, ◌&&◌, nat_lt, nat_le, List, [], length}
+use Rattle.std.specs.List.{list_all}
+use Rattle.std.specs.Str.{is_utf8}
 use Rattle.ncc_pack.specs.declared.value.Value.{Value, fold-Value}
 use Rattle.ncc_pack.specs.declared.value.NodeValue.{NodeValue, fold-NodeValue}
 use Rattle.ncc_pack.specs.declared.value.Value.TheOpen.{Value-F, NodeValue-F}

@@ -1,5 +1,4 @@
-use Rattle.std.proofs.Common.{◌≡◌, ◌<◌, ◌-◌, ◌&&◌, sym, ap, ◌∙◌, arith}
-use Rattle.std.specs.Prelude.{nat_le}
+use Rattle.std.proofs.Common.{◌<◌, ◌-◌, sym, ◌∙◌, arith}
 use Rattle.ncc_pack.specs.Fits.{fits_within}
 use Rattle.ncc_pack.proofs.Fitting.{one_fails, all_pass, list_more, and_false, small_enough}
 use Rattle.ncc_pack.proofs.fit.+fitting.Goals as goal

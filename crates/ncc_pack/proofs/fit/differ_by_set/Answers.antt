@@ -1,7 +1,4 @@
-use Rattle.std.proofs.Common.{◌≡◌, true, false, sym, ap, ◌∙◌}
-use Rattle.std.specs.List.{list_any}
-use Rattle.std.specs.Str.{bytes_eq}
-use Rattle.ncc_pack.specs.Keys.{keys}
+use Rattle.std.proofs.Common.{sym, ap, ◌∙◌}
 use Rattle.ncc_pack.proofs.Fitting.{has, not_in_set, is_fresh, one_key_more}
 use Rattle.ncc_pack.proofs.fit.differ_by_set.Goals as goal
 

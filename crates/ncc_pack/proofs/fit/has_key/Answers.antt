@@ -1,4 +1,4 @@
-use Rattle.std.proofs.Common.{◌≡◌, true, sym, ap, ◌∙◌}
+use Rattle.std.proofs.Common.{◌≡◌, true, sym, ◌∙◌}
 use Rattle.std.specs.Str.{bytes_eq}
 use Rattle.ncc_pack.proofs.Fitting.{key_found}
 use Rattle.ncc_pack.proofs.fit.has_key.Goals as goal

@@ -1,6 +1,5 @@
-use Rattle.std.proofs.Common.{◌≡◌, ◌-◌, ◌+◌, ◌≤◌, ℕ, List, length, take, drop, refl, sym, ap, ◌∙◌, subst, arith}
+use Rattle.std.proofs.Common.{◌≡◌, ◌-◌, ◌+◌, length, drop, refl, ap, ◌∙◌, arith}
 use Rattle.std.proofs.lemmas.Result.{err_from_is_err_and}
-use Rattle.ncc_pack.specs.Reading.{value_at}
 use Rattle.ncc_pack.proofs.Fields.{IsBytes, IsBytes-drop}
 use Rattle.ncc_pack.proofs.Laws.{used, found, only_ok, only_err, drop_more, drop_size}
 use Rattle.ncc_pack.proofs.read.decode_at.Goals as goal

@@ -1,12 +1,11 @@
-use Rattle.std.proofs.Common.{◌≡◌, ◌++◌, ◌<◌, ◌≤◌, ◌^◌, length, map, sym, ap, ◌∙◌, rules, arith, w64, FitsSigned}
+use Rattle.std.proofs.Common.{length, ◌∙◌, rules, arith}
 use denote.Param.Weighed.{at_most}
-use Rattle.std.proofs.lemmas.Int.{to_z-of_z}
 use Rattle.ncc_pack.specs.Spells.{lists, dicts}
-use Rattle.ncc_pack.specs.Short.{integer, text, short, pairs, short_pair, head}
+use Rattle.ncc_pack.specs.Short.{text, short, head}
 use Rattle.ncc_pack.specs.declared.value.Value.{the_lemmas}
 use Rattle.ncc_pack.specs.declared.value.NodeValue.{the_lemmas as node_lemmas}
 use Rattle.ncc_pack.proofs.Loops.{spelled_more, pairs_more, item_fits, pair_parts, node_labels, node_props, value_list, value_dict, value_node, text_size, bytes_size}
-use Rattle.ncc_pack.proofs.Sizes.{stays, starts, goes_on, pair_goes_on, list_ends, dict_ends, node_len}
+use Rattle.ncc_pack.proofs.Sizes.{goes_on, pair_goes_on}
 use Rattle.ncc_pack.proofs.size.+measuring.Goals as goal
 
 pub values_len-value_len-requires : goal.values_len-value_len-requires

@@ -1,4 +1,3 @@
-use Rattle.std.proofs.Common.{◌≡◌, ap, ◌∙◌}
 use Rattle.ncc_pack.specs.Spells.{bytes_mark}
 use Rattle.ncc_pack.proofs.Sizes.{bytes_is}
 use Rattle.ncc_pack.proofs.size.bytes_len.Goals as goal

@@ -1,11 +1,10 @@
-use Rattle.std.proofs.Common.{◌≡◌, ◌++◌, ◌∷◌, [], map, rules, arith, subst, sym, ap, ◌∙◌, List, ℕ, OnOk, w64, FitsSigned}
+use Rattle.std.proofs.Common.{◌≡◌, ◌++◌, rules, arith, subst, List, ℕ, OnOk, w64, FitsSigned}
 use Rattle.std.proofs.lemmas.Int.{to_z-of_z}
 use denote.Param.Weighed.{at_most}
-use Rattle.ncc_pack.specs.Short.{integer, list, dict, short, short_pair}
+use Rattle.ncc_pack.specs.Short.{integer}
 use Rattle.ncc_pack.specs.declared.value.Value.{the_lemmas}
 use Rattle.ncc_pack.specs.declared.value.NodeValue.{the_lemmas as node_lemmas}
 use Rattle.ncc_pack.proofs.Loops.{step, step_two, spelled_more, pairs_more, item_fits, pair_parts, node_written, node_labels, node_props, value_list, value_dict, value_node}
-use Rattle.std.proofs.lemmas.Grind.{common_steps}
 use Rattle.ncc_pack.proofs.write.+encoding.Goals as goal
 
 pub put_dict-put_text-requires : goal.put_dict-put_text-requires

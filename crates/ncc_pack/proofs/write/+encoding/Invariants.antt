@@ -1,5 +1,5 @@
 use Rattle.std.proofs.Common.{◌≡◌, ◌++◌, take, map}
-use Rattle.ncc_pack.specs.Short.{concat, pairs, head, short, short_pair}
+use Rattle.ncc_pack.specs.Short.{concat, pairs, short, short_pair}
 use Rattle.ncc_pack.proofs.write.+encoding.Given as goal
 
 abbrev pub invariant-put_values-loop-value : goal.invariant-put_values-loop-value
