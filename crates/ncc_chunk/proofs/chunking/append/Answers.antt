@@ -1,5 +1,5 @@
 use Rattle.std.proofs.Common.{◌≡◌, ◌++◌, ◌∷◌, [], ℕ, List, length, take, drop, sym, ap, ◌∙◌, append_assoc, length-drop, arith}
-use Rattle.std.proofs.lemmas.Result.{on_ok_weaker, on_err_weaker}
+use Rattle.std.proofs.lemmas.Result.{on_ok_weaker}
 use Rattle.ncc_chunk.specs.Chunked.{chunk_of, chunks_of}
 use Rattle.ncc_pack.specs.Writing.{Begins}
 use Rattle.ncc_chunk.proofs.Pieces.{chunks_more, chunks_last}
