@@ -1,0 +1,1 @@
+//! Tables whose addresses were worked out by hand.
