@@ -1,10 +1,12 @@
 -- Cores by their numbers.
-use Rattle.std.proofs.Common.{◌≡◌, ◌≢◌, ℕ, zero, suc, ◌+◌, ◌-◌, ◌<◌, ◌≤◌, Bool, true, false, not, cond, List, [], ◌∷◌, ◌++◌, length, map, filter, take, get_or, refl, sym, ap, ◌∙◌, arith, eqb, add-zero}
+use Rattle.std.proofs.Common.{◌≡◌, ◌≢◌, ℕ, zero, suc, ◌+◌, ◌-◌, ◌<◌, ◌≤◌, Bool, true, false, not, cond, List, [], ◌∷◌, ◌++◌, length, map, filter, take, get_or, refl, sym, ap, ◌∙◌, arith, eqb, add-zero, ◌⊎◌, inl, inr}
 use Rattle.std.specs.List.{enumerate_from}
 use Rattle.std.proofs.lemmas.Bool.{eq-eqb, ne_eqb}
 use Rattle.std.proofs.lemmas.List.{length-take-le, take_more}
 use Rattle.ncc_pack.specs.declared.value.Value.{Value}
-use Rattle.ncc_route.specs.Routing.{leading, following}
+use Rattle.ncc_route.specs.declared.members.Members.{Members}
+use Rattle.ncc_route.specs.declared.table.Table.{Table}
+use Rattle.ncc_route.specs.Routing.{leading, following, or_else, readers, table}
 
 -- those whose number passes a test, where the first has this number
 abbrev pub chosen : (ℕ → Bool) → ℕ → List Value → List Value
@@ -83,3 +85,32 @@ leader_past leader cores past = after leader 1 cores (omega arith)
 
 pub leader_at : (leader : ℕ) (cores : List Value) (x : Value) → 0 < leader → leader ≤ length cores → x ≡ get_or cores (leader - 1) x → leading leader cores ≡ x ∷ []
 leader_at leader cores x some le is = at_place leader 1 (leader - 1) cores x (omega arith) (omega arith) ∙ ap (λ (y : Value). y ∷ []) (sym is)
+
+-- ---- a number above the cores'
+
+-- where the number is nobody's, all are others
+all_others : (leader n : ℕ) (xs : List Value) → (leader < n) ⊎ (n + length xs ≤ leader) → chosen (λ m. not (eqb m leader)) n xs ≡ xs
+all_others leader n [] h = refl
+all_others leader n (x ∷ xs) (inl lt) =
+    chosen_yes (λ m. not (eqb m leader)) n x xs (ap not (ne_eqb n leader (λ e. omega arith))) ∙ ap (λ (l : List Value). x ∷ l) (all_others leader (n + 1) xs (inl (omega arith)))
+all_others leader n (x ∷ xs) (inr le) =
+    let ne : n ≡ leader → ⊥ = λ e. omega arith in
+    chosen_yes (λ m. not (eqb m leader)) n x xs (ap not (ne_eqb n leader ne)) ∙ ap (λ (l : List Value). x ∷ l) (all_others leader (n + 1) xs (inr (omega arith)))
+
+following_past : (leader : ℕ) (cores : List Value) → length cores < leader → following leader cores ≡ following 0 cores
+following_past leader cores past = all_others leader 1 cores (inr (omega arith)) ∙ sym (all_others 0 1 cores (inl (omega arith)))
+
+leading_past : (leader : ℕ) (cores : List Value) → length cores < leader → leading leader cores ≡ leading 0 cores
+leading_past leader cores past = leader_past leader cores past ∙ sym (leader_zero 0 cores refl)
+
+same_tables : (members : Members) (leader at ttl : ℕ) → length members.cores < leader → table members leader at ttl ≡ table members 0 at ttl
+same_tables members leader at ttl past =
+    let made : List Value → List Value → Table = λ w f. record { got = at; ttl = ttl; write = w; read = or_else (f ++ members.replicas) w; route = members.cores } in
+    ap (λ (w : List Value). made w (following leader members.cores)) (leading_past leader members.cores past) ∙ ap (λ (f : List Value). made (leading 0 members.cores) f) (following_past leader members.cores past)
+
+-- a table with the lists for such a number is the one for 0
+pub table_past : (members : Members) (leader at ttl : ℕ) (write read route : List Value) → write ≡ leading leader members.cores → read ≡ readers leader members → route ≡ members.cores
+    → length members.cores < leader → ◌≡◌ {A = Table} (record { got = at; ttl = ttl; write = write; read = read; route = route }) (table members 0 at ttl)
+table_past members leader at ttl write read route w r o past =
+    let e : ◌≡◌ {A = Table} (record { got = at; ttl = ttl; write = write; read = read; route = route }) (table members leader at ttl) = cc in
+    e ∙ same_tables members leader at ttl past

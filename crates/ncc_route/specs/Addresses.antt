@@ -1,5 +1,5 @@
 -- Addresses are texts: every value of the lists of members and of tables is one.
-use Rattle.std.specs.Prelude.{Bool, true, false, ◌&&◌, ℕ, List}
+use Rattle.std.specs.Prelude.{Bool, true, false, ◌&&◌, List}
 use Rattle.std.specs.List.{list_all}
 use Rattle.ncc_pack.specs.declared.value.Value.{Value}
 use Rattle.ncc_pack.specs.declared.value.Value.TheVariants as v

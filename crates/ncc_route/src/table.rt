@@ -1,6 +1,6 @@
 //! Routing tables.
 
-ghost use Rattle.std.specs.Prelude.{◌≡◌, ◌<◌, ◌↔◌, ◌++◌, [], IsTrue, IfOk, IfErr, IsErr, Some};
+ghost use Rattle.std.specs.Prelude.{◌≡◌, ◌<◌, ◌↔◌, ◌++◌, [], length, IsTrue, IfOk, IfErr, IsErr, Some};
 ghost use Rattle.ncc_pack.specs.declared.value.Value.TheVariants as v;
 ghost use Rattle.ncc_route.specs.Addresses.{members_are_texts, table_is_texts};
 ghost use Rattle.ncc_route.specs.Routing.{table, leading, following, readers, addresses, picked, ends};
@@ -57,12 +57,21 @@ pub struct Table {
 
 /// The table of these members, got at the moment `now` for `ttl` milliseconds, while the core with the number
 /// `leader` leads; 0 and a number above the cores' say that no leader is known.
-pub fn table_of(alloc: Global, members: &Members, leader: u8, now: u64, ttl: u64) -> Result<Table, AllocError>
+pub fn table_of(
+    alloc: Global,
+    members: &Members,
+    leader: u8,
+    now: u64,
+    ttl: u64,
+) -> Result<Table, AllocError>
     requires { IsTrue (members_are_texts members.now) }
     ensures table { IfOk result (λ t. t ≡ table members.now leader now ttl) }
+    ensures times { IfOk result (λ t. (t.got ≡ now) × (t.ttl ≡ ttl)) }
     ensures write { IfOk result (λ t. t.write ≡ leading leader members.now.cores) }
     ensures read { IfOk result (λ t. t.read ≡ readers leader members.now) }
     ensures route { IfOk result (λ t. t.route ≡ members.now.cores) }
+    // A number above the cores' counts as 0.
+    ensures unknown { length members.now.cores < leader → IfOk result (λ t. t ≡ table members.now 0 now ttl) }
     ensures texts { IfOk result (λ t. IsTrue (table_is_texts t)) }
 {
     let write = leading_core(alloc, &members.cores, leader)?;
@@ -144,7 +153,7 @@ impl Table {
         requires { IsTrue (table_is_texts self.now) }
         ensures ok { IfOk result (λ address. picked word (addresses role self.now) ≡ Some (v.Text address.now)) }
         ensures none { IsErr result ↔ (addresses role self.now ≡ []) }
-        ensures names { IfErr result (λ error. error.role ≡ role) }
+        ensures same_role { IfErr result (λ error. error.role ≡ role) }
     {
         let all = self.addresses(role).as_slice();
         if all.is_empty() {
@@ -156,8 +165,7 @@ impl Table {
         }
     }
 
-    /// The addresses for a role. It takes no memory.
-    pub fn addresses(&self, role: Role) -> &Values
+    fn addresses(&self, role: Role) -> &Values
         ensures { result.now ≡ addresses role self.now }
     {
         match role {
