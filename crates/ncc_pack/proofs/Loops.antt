@@ -165,3 +165,26 @@ value_node n (d, h) = (d, levels_by (v.Node n) (fits_step (Value-F.Node (fits_no
 pub whole_value : (x : Value) → IsTrue (fits x) → SomeValue x
 unfolding SomeValue
 whole_value x h = (max_depth, h)
+
+-- ---- a text, a list and a dictionary by themselves
+
+short_of : (x : Value) (l : Value-F Value NodeValue) → roll-Value l ≡ x → short x ≡ short_step (map-Value Value NodeValue (List ℕ) (List ℕ) short short_node l)
+short_of x l e = ap short (sym e) ∙ fold-roll-Value (List ℕ) (List ℕ) short_step node_step l
+
+pub short_text : (t : List ℕ) → short (v.Text t) ≡ text t
+short_text t = short_of (v.Text t) (Value-F.Text t) (v.rolls-Text t)
+
+pub short_list : (xs : List Value) → short (v.List xs) ≡ list (map short xs)
+short_list xs = short_of (v.List xs) (Value-F.List xs) (v.rolls-List xs)
+
+pub short_dict : (ps : List (List ℕ × Value)) → short (v.Dict ps) ≡ dict (map short_pair ps)
+short_dict ps = short_of (v.Dict ps) (Value-F.Dict ps) (v.rolls-Dict ps)
+
+pub text_fits : (t : List ℕ) → IsTrue (fits (v.Text t)) → length t ≤ max_size
+text_fits t h = text_size t (whole_value (v.Text t) h)
+
+pub list_fits : (xs : List Value) → IsTrue (fits (v.List xs)) → SomeList xs
+list_fits xs h = value_list xs (whole_value (v.List xs) h)
+
+pub dict_fits : (ps : List (List ℕ × Value)) → IsTrue (fits (v.Dict ps)) → SomeDict ps
+dict_fits ps h = value_dict ps (whole_value (v.Dict ps) h)

@@ -25,4 +25,4 @@ pub use std::alloc::AllocError as Memory;
 pub use text::Text;
 pub use value::{Dict, NodeValue, Value, Values, copy_dict, copy_values};
 pub use words::Words;
-pub use write::encode;
+pub use write::{encode, encode_dict, encode_text, encode_values};
