@@ -1,6 +1,6 @@
 -- What `decode` gives, and that no spelling begins another.
-use Rattle.std.proofs.Common.{◌≡◌, ℕ, ◌-◌, ◌≤◌, List, ◌++◌, length, take, drop, Result, Ok, Err, refl, sym, ap, ◌∙◌, arith}
-use Rattle.std.proofs.lemmas.List.{take_at, drop_at, length-append}
+use Rattle.std.proofs.Common.{◌≡◌, ℕ, zero, suc, ◌+◌, ◌-◌, ◌≤◌, List, [], ◌∷◌, ◌++◌, length, take, drop, Result, Ok, Err, refl, sym, ap, ◌∙◌, arith}
+use Rattle.std.proofs.lemmas.List.{take_at, drop_at, drop_all, take-append-drop, length-append, length-take}
 use Rattle.ncc_pack.specs.declared.value.Value.{Value}
 use Rattle.ncc_pack.specs.declared.error.PackError.{PackError}
 use Rattle.ncc_pack.specs.Reading.{Fails, value_at}
@@ -54,3 +54,18 @@ one_form d x y a b r s p q e =
     let first : take (length a) (a ++ r) ≡ a = take_at a r (length a) refl in
     let second : take (length a) (b ++ s) ≡ b = take_at b s (length a) (sym len) in
     (ap (λ (z : Value × List ℕ). z.0) same, sym first ∙ ap (take (length a)) e ∙ second)
+
+-- ---- from a place on
+
+abbrev none : List ℕ
+none = []
+
+pub drop_more : (n m : ℕ) (bytes : List ℕ) → drop (n + m) bytes ≡ drop m (drop n bytes)
+drop_more zero m bytes = let e : 0 + m ≡ m = omega arith in rw e refl
+drop_more (suc n) m [] = drop_all (suc n + m) none (omega arith) ∙ sym (drop_all m none (omega arith))
+drop_more (suc n) m (b ∷ bytes) = let e : suc n + m ≡ suc (n + m) = omega arith in rw e (drop_more n m bytes)
+
+pub drop_size : (n : ℕ) (bytes : List ℕ) → n ≤ length bytes → length (drop n bytes) ≡ length bytes - n
+drop_size n bytes le =
+    let parts = ap length (take-append-drop n bytes) in
+    omega (arith, parts, length-append (take n bytes) (drop n bytes), length-take n bytes)

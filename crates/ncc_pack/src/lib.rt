@@ -18,7 +18,7 @@ mod write;
 
 pub use bytes::Bytes;
 pub use error::PackError;
-pub use read::decode;
+pub use read::{decode, decode_at, one_form};
 pub use sequence::Sequence;
 pub use size::short_len;
 pub use std::alloc::AllocError as Memory;

@@ -1,9 +1,10 @@
 //! From bytes to a value.
 
-ghost use Rattle.std.specs.Prelude.{◌≡◌, ◌≤◌, ◌++◌, [], ℕ, List, Ok, IfOk, IsTrue, length, take, drop};
+ghost use Rattle.std.specs.Prelude.{◌≡◌, ◌≤◌, ◌+◌, ◌++◌, [], ℕ, List, Ok, IfOk, IsTrue, length, take, drop};
 ghost use Rattle.ncc_pack.specs.declared.value.Value.{Value};
 ghost use Rattle.ncc_pack.specs.Reading.{Gives, read_value, value_at, labels_at, props_at, items_at, pairs_at, label_at, fields_at, within};
 ghost use Rattle.ncc_pack.specs.Spells.{spells};
+ghost use Rattle.ncc_pack.specs.Limits.{max_depth};
 ghost use Rattle.ncc_pack.specs.Short.{short};
 ghost use Rattle.ncc_pack.specs.Fits.{fits};
 
@@ -268,6 +269,22 @@ pub fn decode(alloc: Global, bytes: &[u8]) -> Result<(Value, usize), PackError>
 {
     let (value, rest) = value_of(alloc, bytes.len(), MAX_DEPTH, bytes)?;
     Ok((value, bytes.len() - rest.len()))
+}
+
+/// The value that the bytes from a place on begin with, and the length of its spelling. It is as `decode`, and the place of
+/// a refusal counts in the whole bytes.
+pub fn decode_at(alloc: Global, bytes: &[u8], at: usize) -> Result<(Value, usize), PackError>
+    requires { at ≤ length bytes.now }
+    // What is read is spelled so.
+    ensures found { IfOk result (λ r. (at + r.1 ≤ length bytes.now) × spells r.0 (take r.1 (drop at bytes.now))) }
+    // What is spelled so is read, whatever follows, unless memory runs out.
+    ensures only { (x : Value) (b rest : List ℕ) → spells x b → drop at bytes.now ≡ b ++ rest → Gives {Y = Value × ℕ} (λ r. r) result (Ok (x, length b)) }
+    // A refusal is the first fault that stands in the bytes.
+    ensures exact { Gives (λ r. (r.0, drop (at + r.1) bytes.now)) result (value_at (length bytes.now) max_depth (drop at bytes.now)) }
+{
+    let (_, front) = bytes.split_at(at);
+    let (value, rest) = value_of(alloc, bytes.len(), MAX_DEPTH, front)?;
+    Ok((value, front.len() - rest.len()))
 }
 
 /// No spelling begins another.
