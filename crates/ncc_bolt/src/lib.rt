@@ -1,0 +1,12 @@
+//! The messages of Bolt 4.4 that a client and a server send each other, without their chunks (section "Messages").
+#![tactic(auto)]
+
+mod error;
+mod field;
+mod message;
+mod read;
+
+pub use error::MessageError;
+pub use message::{Request, Response};
+pub use ncc_pack::Memory;
+pub use read::{read_request, read_response};
