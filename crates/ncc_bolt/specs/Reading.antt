@@ -94,9 +94,14 @@ fields_of ks tag n message = counted tag n (length ks) >>= λ u. fields_at ks (l
 
 -- ---- messages
 
+-- the message of a row
+abbrev pub row_at : {M : Type 0} → Row M → ℕ → ℕ → List ℕ → Result M MessageError
+row_at row tag n message = fields_of row.kinds tag n message >>= λ fields. Ok (row.make fields)
+
+-- the message of the row with the tag
 abbrev pub in_table : {M : Type 0} → List (Row M) → ℕ → ℕ → List ℕ → Result M MessageError
 in_table [] tag n message = Err (UnknownTag tag)
-in_table (row ∷ rows) tag n message = if row.tag == tag then (fields_of row.kinds tag n message >>= λ fields. Ok (row.make fields)) else in_table rows tag n message
+in_table (row ∷ rows) tag n message = if row.tag == tag then row_at row tag n message else in_table rows tag n message
 
 abbrev pub message_at : {M : Type 0} → List (Row M) → List ℕ → Result M MessageError
 message_at table message = head_at message >>= λ head. in_table table head.1 head.0 message

@@ -2,8 +2,8 @@
 
 ghost use Rattle.std.specs.Prelude.{◌≡◌, ◌≤◌, [], ◌∷◌, length, drop, Ok, IfOk};
 ghost use Rattle.ncc_bolt.specs.Fields.{dictionary, text, list};
-ghost use Rattle.ncc_bolt.specs.Reading.{Gives, head_at, spelled_at, field_at, fields_of, ended, counted, ◌>>=◌};
-ghost use Rattle.ncc_bolt.specs.Table.{run_row, route_row};
+ghost use Rattle.ncc_bolt.specs.Reading.{Gives, head_at, spelled_at, field_at, fields_of, ended, counted, row_at};
+ghost use Rattle.ncc_bolt.specs.Table.{bare, run_row, route_row};
 
 use crate::error::MessageError;
 use crate::message::Request;
@@ -131,7 +131,7 @@ pub(crate) fn no_fields<M: Drop>(
     n: u8,
 ) -> Result<M, MessageError>
     requires { 2 ≤ length message.now }
-    ensures { Gives (λ m. m) result (fields_of [] tag n message.now >>= λ fields. Ok made) }
+    ensures { Gives (λ m. m) result (row_at (bare tag made) tag n message.now) }
 {
     counted(tag, n, 0)?;
     ended(message, 2)?;
@@ -178,7 +178,7 @@ pub(crate) fn run_of(
     n: u8,
 ) -> Result<Request, MessageError>
     requires { 2 ≤ length message.now }
-    ensures { Gives (λ m. m) result (fields_of run_row.kinds tag n message.now >>= λ fields. Ok (run_row.make fields)) }
+    ensures { Gives (λ m. m) result (row_at run_row tag n message.now) }
 {
     counted(tag, n, 3)?;
     let (query, behind) = text_of(alloc, message, 2, tag, 0)?;
@@ -200,7 +200,7 @@ pub(crate) fn route_of(
     n: u8,
 ) -> Result<Request, MessageError>
     requires { 2 ≤ length message.now }
-    ensures { Gives (λ m. m) result (fields_of route_row.kinds tag n message.now >>= λ fields. Ok (route_row.make fields)) }
+    ensures { Gives (λ m. m) result (row_at route_row tag n message.now) }
 {
     counted(tag, n, 3)?;
     let (routing, behind) = dict_of(alloc, message, 2, tag, 0)?;
