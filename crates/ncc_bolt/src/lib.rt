@@ -5,8 +5,10 @@ mod error;
 mod field;
 mod message;
 mod read;
+mod write;
 
 pub use error::MessageError;
 pub use message::{Request, Response};
 pub use ncc_pack::Memory;
 pub use read::{read_request, read_response};
+pub use write::{write_request, write_response};

@@ -71,6 +71,20 @@ fn response_of(
     }
 }
 
+fn request_in(alloc: Global, message: &[u8]) -> Result<Request, MessageError>
+    ensures { Gives (λ x. x) result (request_at message.now) }
+{
+    let (n, tag) = head_of(message)?;
+    request_of(alloc, message, tag, n)
+}
+
+fn response_in(alloc: Global, message: &[u8]) -> Result<Response, MessageError>
+    ensures { Gives (λ x. x) result (response_at message.now) }
+{
+    let (n, tag) = head_of(message)?;
+    response_of(alloc, message, tag, n)
+}
+
 /// Reads a request, the whole of a message without its chunks (Bolt 4.4, section "Messages").
 ///
 /// It refuses the first of these faults: an empty message or another marker than B0 to BF, an end before the tag, a tag of no
@@ -86,8 +100,7 @@ pub fn read_request(alloc: Global, message: &[u8]) -> Result<Request, MessageErr
     // A refusal is the first fault that stands in the message.
     ensures exact { Gives (λ x. x) result (request_at message.now) }
 {
-    let (n, tag) = head_of(message)?;
-    request_of(alloc, message, tag, n)
+    request_in(alloc, message)
 }
 
 /// Reads a response, the whole of a message without its chunks (Bolt 4.4, section "Messages").
@@ -103,6 +116,5 @@ pub fn read_response(alloc: Global, message: &[u8]) -> Result<Response, MessageE
     // A refusal is the first fault that stands in the message.
     ensures exact { Gives (λ x. x) result (response_at message.now) }
 {
-    let (n, tag) = head_of(message)?;
-    response_of(alloc, message, tag, n)
+    response_in(alloc, message)
 }
