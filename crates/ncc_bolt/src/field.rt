@@ -124,12 +124,7 @@ fn list_of(
 }
 
 /// A message that has no fields.
-pub(crate) fn no_fields<M: Drop>(
-    made: M,
-    message: &[u8],
-    tag: u8,
-    n: u8,
-) -> Result<M, MessageError>
+pub(crate) fn no_fields<M: Drop>(made: M, message: &[u8], tag: u8, n: u8) -> Result<M, MessageError>
     requires { 2 ≤ length message.now }
     ensures { Gives (λ m. m) result (row_at (bare tag made) tag n message.now) }
 {
@@ -139,12 +134,7 @@ pub(crate) fn no_fields<M: Drop>(
 }
 
 /// The field of a message that has a dictionary alone.
-pub(crate) fn one_dict(
-    alloc: Global,
-    message: &[u8],
-    tag: u8,
-    n: u8,
-) -> Result<Dict, MessageError>
+pub(crate) fn one_dict(alloc: Global, message: &[u8], tag: u8, n: u8) -> Result<Dict, MessageError>
     requires { 2 ≤ length message.now }
     ensures { Gives (λ ps. (ps, tt)) result (fields_of (dictionary ∷ []) tag n message.now) }
 {
@@ -171,12 +161,7 @@ pub(crate) fn one_list(
 }
 
 /// The request RUN: a text and two dictionaries.
-pub(crate) fn run_of(
-    alloc: Global,
-    message: &[u8],
-    tag: u8,
-    n: u8,
-) -> Result<Request, MessageError>
+pub(crate) fn run_of(alloc: Global, message: &[u8], tag: u8, n: u8) -> Result<Request, MessageError>
     requires { 2 ≤ length message.now }
     ensures { Gives (λ m. m) result (row_at run_row tag n message.now) }
 {

@@ -14,12 +14,7 @@ use crate::message::{Request, Response};
 use std::alloc::Global;
 
 /// The request of a tag with so many fields.
-fn request_of(
-    alloc: Global,
-    message: &[u8],
-    tag: u8,
-    n: u8,
-) -> Result<Request, MessageError>
+fn request_of(alloc: Global, message: &[u8], tag: u8, n: u8) -> Result<Request, MessageError>
     requires { 2 ≤ length message.now }
     ensures { Gives {Y = Request} (λ m. m) result (in_table requests tag n message.now) }
 {
@@ -47,12 +42,7 @@ fn request_of(
 }
 
 /// The response of a tag with so many fields.
-fn response_of(
-    alloc: Global,
-    message: &[u8],
-    tag: u8,
-    n: u8,
-) -> Result<Response, MessageError>
+fn response_of(alloc: Global, message: &[u8], tag: u8, n: u8) -> Result<Response, MessageError>
     requires { 2 ≤ length message.now }
     ensures { Gives {Y = Response} (λ m. m) result (in_table responses tag n message.now) }
 {

@@ -134,11 +134,11 @@ pub fn write_response(response: &Response, into: &mut Bytes) -> Result<(), Alloc
     ensures spelled { OnOk result ((b : List ℕ) × SpellsResponse response.now b × (into.new ≡ into.old ++ b)) }
     ensures err { OnErr result (into.new ≡ into.old) }
 {
-    let before = into.len();
+    let start = into.len();
     match put_response(response, into) {
         Ok(()) => Ok(()),
         Err(error) => {
-            into.truncate(before);
+            into.truncate(start);
             Err(error)
         }
     }

@@ -18,6 +18,7 @@ mod write;
 
 pub use bytes::Bytes;
 pub use error::PackError;
+pub use fit::{fits_dict, fits_text, fits_values};
 pub use read::{decode, decode_at, one_form};
 pub use sequence::Sequence;
 pub use size::short_len;

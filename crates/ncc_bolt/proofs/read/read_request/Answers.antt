@@ -1,6 +1,6 @@
 use Rattle.std.proofs.Common.{sym, subst, List, ℕ, arith}
 use Rattle.ncc_bolt.specs.Messages.{SpellsRequest}
-use Rattle.ncc_bolt.proofs.Laws.{request_okay, request_only, request_short}
+use Rattle.ncc_bolt.proofs.Joined.{request_okay, request_only, request_short}
 use Rattle.ncc_bolt.proofs.read.read_request.Goals as goal
 
 pub returns-clause-found : goal.returns-clause-found

@@ -1,6 +1,6 @@
 use Rattle.std.proofs.Common.{sym, subst, List, ℕ, arith}
 use Rattle.ncc_bolt.specs.Messages.{SpellsResponse}
-use Rattle.ncc_bolt.proofs.Laws.{response_okay, response_only, response_short}
+use Rattle.ncc_bolt.proofs.Joined.{response_okay, response_only, response_short}
 use Rattle.ncc_bolt.proofs.read.read_response.Goals as goal
 
 pub returns-clause-found : goal.returns-clause-found

@@ -1,5 +1,5 @@
 use Rattle.ncc_bolt.specs.Writing.{short_request}
-use Rattle.ncc_bolt.proofs.Laws.{request_short}
+use Rattle.ncc_bolt.proofs.Joined.{request_short}
 use Rattle.ncc_bolt.proofs.write.write_request.Goals as goal
 
 pub returns-in-Ok-clause-spelled : goal.returns-in-Ok-clause-spelled

@@ -1,5 +1,5 @@
 use Rattle.ncc_bolt.specs.Writing.{short_response}
-use Rattle.ncc_bolt.proofs.Laws.{response_short}
+use Rattle.ncc_bolt.proofs.Joined.{response_short}
 use Rattle.ncc_bolt.proofs.write.write_response.Goals as goal
 
 pub returns-in-Ok-clause-spelled : goal.returns-in-Ok-clause-spelled

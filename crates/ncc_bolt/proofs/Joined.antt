@@ -1,7 +1,7 @@
 -- What is read is spelled so, what is spelled so is read, and what is written is spelled so.
-use Rattle.std.proofs.Common.{◌≡◌, ℕ, ◌+◌, ◌-◌, ◌<◌, ◌≤◌, Bool, true, false, cond, eqb, List, [], ◌∷◌, ◌++◌, length, drop, Result, Ok, Err, IfOk, refl, sym, ap, ◌∙◌, append_assoc, subst, arith, ◌⊎◌, inl, inr}
+use Rattle.std.proofs.Common.{◌≡◌, ℕ, ◌+◌, ◌-◌, ◌<◌, ◌≤◌, Bool, true, false, cond, eqb, List, [], ◌∷◌, ◌++◌, length, take, drop, Result, Ok, Err, IfOk, refl, sym, ap, ◌∙◌, append_assoc, subst, arith, ◌⊎◌, inl, inr}
 use Rattle.std.specs.Prelude.{IsTrue, nat_lt, ◌&&◌, ◌||◌}
-use Rattle.std.proofs.lemmas.List.{append-nil, length-drop}
+use Rattle.std.proofs.lemmas.List.{append-nil, length-append, take_at}
 use Rattle.ncc_pack.specs.declared.value.Value.{Value}
 use Rattle.ncc_pack.specs.declared.value.Value.TheVariants as v
 use Rattle.ncc_pack.specs.declared.error.PackError.TheVariants as p
@@ -33,10 +33,14 @@ test P false x y f g = g refl
 
 -- ---- what is spelled so is read
 
-row_again : {M : Type 0} (w : Row M) (m t : ℕ) (fs : Fields w.kinds) (b : List ℕ) → SpellsFields w.kinds fs b → row_at w w.tag (length w.kinds) (m ∷ t ∷ b) ≡ Ok (w.make fs)
-row_again w m t fs b s =
-    let whole : fields_at w.kinds (length (m ∷ t ∷ b)) w.tag 0 b ≡ Ok (fs, []) = ap (fields_at w.kinds (length (m ∷ t ∷ b)) w.tag 0) (sym (append-nil b)) ∙ fields_again w.kinds (length (m ∷ t ∷ b)) w.tag 0 fs b [] s in
-    rw (same_size (length w.kinds), whole) refl
+ended_then : {A B : Type 0} (total : ℕ) (x : A) (f : A → B) (rest : List ℕ) → (ended total x rest >>= λ y. Ok (f y)) ≡ ended total (f x) rest
+ended_then total x f [] = refl
+ended_then total x f (b ∷ rest) = refl
+
+row_before : {M : Type 0} (w : Row M) (m t : ℕ) (fs : Fields w.kinds) (b rest : List ℕ) → SpellsFields w.kinds fs b → row_at w w.tag (length w.kinds) (m ∷ t ∷ (b ++ rest)) ≡ ended (length (m ∷ t ∷ (b ++ rest))) (w.make fs) rest
+row_before w m t fs b rest s =
+    let total = length (m ∷ t ∷ (b ++ rest)) in
+    rw (same_size (length w.kinds), fields_again w.kinds total w.tag 0 fs b rest s) (ended_then total fs w.make rest)
 
 one_field : (k : Kind) (h : Held k) (b : List ℕ) → spells (value k h) b → SpellsFields (k ∷ []) (h, tt) b
 one_field k h b s = (b, [], s, refl, sym (append-nil b))
@@ -44,25 +48,62 @@ one_field k h b s = (b, [], s, refl, sym (append-nil b))
 three_fields : (k l m : Kind) (x : Held k) (y : Held l) (z : Held m) (a b c : List ℕ) → spells (value k x) a → spells (value l y) b → spells (value m z) c → SpellsFields (k ∷ l ∷ m ∷ []) (x, (y, (z, tt))) (a ++ b ++ c)
 three_fields k l m x y z a b c s t u = (a, b ++ c, s, (b, c, t, one_field m z c u, refl), append_assoc a b c)
 
-pub request_again : (m : Request) (b : List ℕ) → SpellsRequest m b → request_at b ≡ Ok m
+-- a message with bytes behind it: they are refused where they begin
+request_before : (m : Request) (b rest : List ℕ) → SpellsRequest m b → request_at (b ++ rest) ≡ ended (length (b ++ rest)) m rest
 unfolding head_at
-request_again m b (hello extra e s) = row_again (with_dictionary 0x01 (λ x. r.Hello x)) 0xB1 0x01 (extra, tt) e (one_field dictionary extra e s)
-request_again m b goodbye = refl
-request_again m b reset = refl
-request_again m b (run query params extra q p e s t u) = row_again run_row 0xB3 0x10 (query, (params, (extra, tt))) (q ++ p ++ e) (three_fields text dictionary dictionary query params extra q p e s t u)
-request_again m b (begin extra e s) = row_again (with_dictionary 0x11 (λ x. r.Begin x)) 0xB1 0x11 (extra, tt) e (one_field dictionary extra e s)
-request_again m b commit = refl
-request_again m b rollback = refl
-request_again m b (discard extra e s) = row_again (with_dictionary 0x2F (λ x. r.Discard x)) 0xB1 0x2F (extra, tt) e (one_field dictionary extra e s)
-request_again m b (pull extra e s) = row_again (with_dictionary 0x3F (λ x. r.Pull x)) 0xB1 0x3F (extra, tt) e (one_field dictionary extra e s)
-request_again m b (route routing bookmarks extra g k e s t u) = row_again route_row 0xB3 0x66 (routing, (bookmarks, (extra, tt))) (g ++ k ++ e) (three_fields dictionary list dictionary routing bookmarks extra g k e s t u)
+request_before m b rest (hello x e s) = row_before (with_dictionary 0x01 (λ y. r.Hello y)) 0xB1 0x01 (x, tt) e rest (one_field dictionary x e s)
+request_before m b rest goodbye = row_before (bare 0x02 r.Goodbye) 0xB0 0x02 tt [] rest refl
+request_before m b rest reset = row_before (bare 0x0F r.Reset) 0xB0 0x0F tt [] rest refl
+request_before m b rest (run query params extra q p e s t u) = row_before run_row 0xB3 0x10 (query, (params, (extra, tt))) (q ++ p ++ e) rest (three_fields text dictionary dictionary query params extra q p e s t u)
+request_before m b rest (begin x e s) = row_before (with_dictionary 0x11 (λ y. r.Begin y)) 0xB1 0x11 (x, tt) e rest (one_field dictionary x e s)
+request_before m b rest commit = row_before (bare 0x12 r.Commit) 0xB0 0x12 tt [] rest refl
+request_before m b rest rollback = row_before (bare 0x13 r.Rollback) 0xB0 0x13 tt [] rest refl
+request_before m b rest (discard x e s) = row_before (with_dictionary 0x2F (λ y. r.Discard y)) 0xB1 0x2F (x, tt) e rest (one_field dictionary x e s)
+request_before m b rest (pull x e s) = row_before (with_dictionary 0x3F (λ y. r.Pull y)) 0xB1 0x3F (x, tt) e rest (one_field dictionary x e s)
+request_before m b rest (route routing bookmarks extra g k e s t u) = row_before route_row 0xB3 0x66 (routing, (bookmarks, (extra, tt))) (g ++ k ++ e) rest (three_fields dictionary list dictionary routing bookmarks extra g k e s t u)
+
+response_before : (m : Response) (b rest : List ℕ) → SpellsResponse m b → response_at (b ++ rest) ≡ ended (length (b ++ rest)) m rest
+unfolding head_at
+response_before m b rest (success x e s) = row_before (with_dictionary 0x70 (λ y. answer.Success y)) 0xB1 0x70 (x, tt) e rest (one_field dictionary x e s)
+response_before m b rest (row xs e s) = row_before (with_list 0x71 (λ y. answer.Row y)) 0xB1 0x71 (xs, tt) e rest (one_field list xs e s)
+response_before m b rest ignored = row_before (bare 0x7E answer.Ignored) 0xB0 0x7E tt [] rest refl
+response_before m b rest (failure x e s) = row_before (with_dictionary 0x7F (λ y. answer.Failure y)) 0xB1 0x7F (x, tt) e rest (one_field dictionary x e s)
+
+pub request_again : (m : Request) (b : List ℕ) → SpellsRequest m b → request_at b ≡ Ok m
+request_again m b s = ap request_at (sym (append-nil b)) ∙ request_before m b [] s
 
 pub response_again : (m : Response) (b : List ℕ) → SpellsResponse m b → response_at b ≡ Ok m
-unfolding head_at
-response_again m b (success meta e s) = row_again (with_dictionary 0x70 (λ x. answer.Success x)) 0xB1 0x70 (meta, tt) e (one_field dictionary meta e s)
-response_again m b (row fields e s) = row_again (with_list 0x71 (λ x. answer.Row x)) 0xB1 0x71 (fields, tt) e (one_field list fields e s)
-response_again m b ignored = refl
-response_again m b (failure meta e s) = row_again (with_dictionary 0x7F (λ x. answer.Failure x)) 0xB1 0x7F (meta, tt) e (one_field dictionary meta e s)
+response_again m b s = ap response_at (sym (append-nil b)) ∙ response_before m b [] s
+
+-- ---- no message begins another
+
+same_rest : {M : Type 0} (m n : M) (total : ℕ) (r s : List ℕ) → length r ≤ total → length s ≤ total → ended total m r ≡ ended total n s → length r ≡ length s
+same_rest m n total [] [] le lf e = refl
+same_rest m n total [] (y ∷ s) le lf e = absurd cc
+same_rest m n total (x ∷ r) [] le lf e = absurd cc
+same_rest m n total (x ∷ r) (y ∷ s) le lf e =
+    let k : total - length (x ∷ r) ≡ total - length (y ∷ s) = cc in
+    omega (arith, k, le, lf)
+
+same_front : {M : Type 0} (m n : M) (a b r s : List ℕ) → ended (length (a ++ r)) m r ≡ ended (length (b ++ s)) n s → a ++ r ≡ b ++ s → a ≡ b
+same_front m n a b r s e w =
+    let e' : ended (length (a ++ r)) m r ≡ ended (length (a ++ r)) n s = e ∙ ap (λ (z : List ℕ). ended (length z) n s) (sym w) in
+    let long : length (a ++ r) ≡ length (b ++ s) = ap length w in
+    let rs : length r ≡ length s = same_rest m n (length (a ++ r)) r s (omega (arith, length-append a r)) (omega (arith, long, length-append b s)) e' in
+    let len : length a ≡ length b = omega (arith, long, length-append a r, length-append b s, rs) in
+    let first : take (length a) (a ++ r) ≡ a = take_at a r (length a) refl in
+    let second : take (length a) (b ++ s) ≡ b = take_at b s (length a) (sym len) in
+    sym first ∙ ap (take (length a)) w ∙ second
+
+pub one_request : (m n : Request) (a b r s : List ℕ) → SpellsRequest m a → SpellsRequest n b → a ++ r ≡ b ++ s → (m ≡ n) × (a ≡ b)
+one_request m n a b r s p q w =
+    let same = same_front m n a b r s (sym (request_before m a r p) ∙ ap request_at w ∙ request_before n b s q) w in
+    (ok_is m n (sym (request_again m a p) ∙ ap request_at same ∙ request_again n b q), same)
+
+pub one_response : (m n : Response) (a b r s : List ℕ) → SpellsResponse m a → SpellsResponse n b → a ++ r ≡ b ++ s → (m ≡ n) × (a ≡ b)
+one_response m n a b r s p q w =
+    let same = same_front m n a b r s (sym (response_before m a r p) ∙ ap response_at w ∙ response_before n b s q) w in
+    (ok_is m n (sym (response_again m a p) ∙ ap response_at same ∙ response_again n b q), same)
 
 -- ---- what is read is spelled so
 
@@ -100,7 +141,7 @@ table_taken : {M : Type 0} (ws : List (Row M)) (tag n : ℕ) (bytes : List ℕ) 
 table_taken [] tag n bytes m fits e = absurd cc
 table_taken (w ∷ ws) tag n bytes m fits e =
     test (λ (z : Result _ MessageError). z ≡ Ok m → Found (w ∷ ws) tag n m (drop 2 bytes)) (eqb w.tag tag) (row_at w tag n bytes) (in_table ws tag n bytes)
-        (λ is h. inl (row_taken w tag n bytes m (grind arith) fits h)) (λ is h. inr (table_taken ws tag n bytes m fits h)) e
+    (λ is h. inl (row_taken w tag n bytes m (grind arith) fits h)) (λ is h. inr (table_taken ws tag n bytes m fits h)) e
 
 -- the marker and the tag
 head_taken : (bytes : List ℕ) (n tag : ℕ) → head_at bytes ≡ Ok (n, tag) → bytes ≡ (0xB0 + n) ∷ tag ∷ drop 2 bytes
@@ -110,12 +151,12 @@ head_taken (a ∷ []) n tag e = test (λ (z : Result (ℕ × ℕ) MessageError).
 head_taken (a ∷ t ∷ bytes) n tag e = test (λ (z : Result (ℕ × ℕ) MessageError). z ≡ Ok (n, tag) → a ∷ t ∷ bytes ≡ (0xB0 + n) ∷ tag ∷ bytes) (nat_lt a 0xB0 || nat_lt 0xBF a) (Err (Pack (p.BadMarker 0))) (Ok (a - 0xB0, t))
     (λ is h. absurd cc)
     (λ is h.
-      let same = ok_is (a - 0xB0, t) (n, tag) h in
-      let one : a - 0xB0 ≡ n = ap (λ (q : ℕ × ℕ). q.0) same in
-      let two : t ≡ tag = ap (λ (q : ℕ × ℕ). q.1) same in
-      let le : 0xB0 ≤ a = grind arith in
-      let first : a ≡ 0xB0 + n = omega (arith, one, le) in
-      rw (← first, two) refl) e
+    let same = ok_is (a - 0xB0, t) (n, tag) h in
+    let one : a - 0xB0 ≡ n = ap (λ (q : ℕ × ℕ). q.0) same in
+    let two : t ≡ tag = ap (λ (q : ℕ × ℕ). q.1) same in
+    let le : 0xB0 ≤ a = grind arith in
+    let first : a ≡ 0xB0 + n = omega (arith, one, le) in
+    rw (← first, two) refl) e
 
 by_row : {M : Type 0} (R : M → List ℕ → Type 0) (m x : M) (n k tag t : ℕ) (b : List ℕ) → t ≡ tag → k ≡ n → x ≡ m → R x ((0xB0 + k) ∷ t ∷ b) → R m ((0xB0 + n) ∷ tag ∷ b)
 by_row R m x n k tag t b e f g h = rw (← e, ← f, ← g) h
