@@ -200,80 +200,47 @@ fn shaken(bytes: &[u8], cut: usize) -> (usize, Shake, usize, Shake) {
     (first, before, second, after)
 }
 
+// Whether a handshake with these proposals comes to this, cut there.
+fn shakes_so(proposals: &[u8; 16], want: Shake, cut: usize) -> bool {
+    // the magic, the proposals, and three bytes that belong to what follows
+    let mut bytes = [9u8; 23];
+    bytes[..4].copy_from_slice(&[0x60, 0x60, 0xb0, 0x17]);
+    bytes[4..20].copy_from_slice(proposals);
+    let settled = cut >= 20;
+    let before = if settled { want } else { Shake::More };
+    let first = if settled { 20 } else { cut };
+    shaken(&bytes, cut) == (first, before, 20 - first, want)
+}
+
 #[test]
 fn handshakes_at_every_cut(rt: HostRuntime) {
     handshake_goes_on();
-    let table = [
-        // 4.4 alone, by range, and as the last of the range; beside others, and as the second, third and fourth
-        (
-            [0, 0, 4, 4, 0, 0, 0, 0, 0, 0, 0, 0, 0, 0, 0, 0],
-            Shake::Chosen,
-        ),
-        (
-            [0, 2, 4, 4, 0, 0, 1, 4, 0, 0, 0, 4, 0, 0, 0, 3],
-            Shake::Chosen,
-        ),
-        (
-            [0, 1, 5, 4, 0, 0, 0, 0, 0, 0, 0, 0, 0, 0, 0, 0],
-            Shake::Chosen,
-        ),
-        (
-            [0, 9, 8, 4, 0, 0, 0, 0, 0, 0, 0, 0, 0, 0, 0, 0],
-            Shake::Chosen,
-        ),
-        (
-            [0, 0, 0, 5, 0, 0, 4, 4, 0, 0, 0, 0, 0, 0, 0, 0],
-            Shake::Chosen,
-        ),
-        (
-            [0, 0, 0, 5, 0, 0, 3, 4, 0, 0, 4, 4, 0, 0, 3, 4],
-            Shake::Chosen,
-        ),
-        (
-            [0, 0, 0, 5, 0, 0, 3, 4, 0, 0, 2, 4, 0, 0, 4, 4],
-            Shake::Chosen,
-        ),
-        // the reserved byte is not looked at
-        (
-            [7, 0, 4, 4, 0, 0, 0, 0, 0, 0, 0, 0, 0, 0, 0, 0],
-            Shake::Chosen,
-        ),
-        // 4.3 alone, 4.5 alone, 5.4, 3.4, a range that ends above 4.4, and the bytes in the other order
-        (
-            [0, 0, 3, 4, 0, 0, 0, 0, 0, 0, 0, 0, 0, 0, 0, 0],
-            Shake::NoVersion,
-        ),
-        (
-            [0, 3, 3, 4, 0, 0, 5, 4, 0, 0, 4, 5, 0, 0, 4, 3],
-            Shake::NoVersion,
-        ),
-        (
-            [0, 3, 8, 4, 0, 0, 0, 0, 0, 0, 0, 0, 0, 0, 0, 0],
-            Shake::NoVersion,
-        ),
-        (
-            [4, 4, 0, 0, 0, 0, 0, 4, 0, 0, 0, 3, 0, 0, 0, 2],
-            Shake::NoVersion,
-        ),
-        (
-            [0, 0, 0, 0, 0, 0, 0, 0, 0, 0, 0, 0, 0, 0, 0, 0],
-            Shake::NoVersion,
-        ),
+    // 4.4 alone, by range, and as the last of the range; beside others, and as the second, third and fourth; the reserved
+    // byte is not looked at
+    let covering = [
+        [0, 0, 4, 4, 0, 0, 0, 0, 0, 0, 0, 0, 0, 0, 0, 0],
+        [0, 2, 4, 4, 0, 0, 1, 4, 0, 0, 0, 4, 0, 0, 0, 3],
+        [0, 1, 5, 4, 0, 0, 0, 0, 0, 0, 0, 0, 0, 0, 0, 0],
+        [0, 9, 8, 4, 0, 0, 0, 0, 0, 0, 0, 0, 0, 0, 0, 0],
+        [0, 0, 0, 5, 0, 0, 4, 4, 0, 0, 0, 0, 0, 0, 0, 0],
+        [0, 0, 0, 5, 0, 0, 3, 4, 0, 0, 4, 4, 0, 0, 3, 4],
+        [0, 0, 0, 5, 0, 0, 3, 4, 0, 0, 2, 4, 0, 0, 4, 4],
+        [7, 0, 4, 4, 0, 0, 0, 0, 0, 0, 0, 0, 0, 0, 0, 0],
     ];
-    for (proposals, want) in table {
-        // the magic, the proposals, and three bytes that belong to what follows
-        let mut bytes = [9u8; 23];
-        bytes[..4].copy_from_slice(&[0x60, 0x60, 0xb0, 0x17]);
-        bytes[4..20].copy_from_slice(&proposals);
-        for cut in 0..24 {
-            let settled = cut >= 20;
-            let before = if settled { want } else { Shake::More };
-            let first = if settled { 20 } else { cut };
-            assert_eq!(rt;
-                shaken(&bytes, cut),
-                (first, before, 20 - first, want),
-                "at {cut}"
-            );
+    // 4.3 alone; 4.5, 5.4 and 3.4; a range that ends above 4.4; the bytes in the other order; zeros
+    let others = [
+        [0, 0, 3, 4, 0, 0, 0, 0, 0, 0, 0, 0, 0, 0, 0, 0],
+        [0, 3, 3, 4, 0, 0, 5, 4, 0, 0, 4, 5, 0, 0, 4, 3],
+        [0, 3, 8, 4, 0, 0, 0, 0, 0, 0, 0, 0, 0, 0, 0, 0],
+        [4, 4, 0, 0, 0, 0, 0, 4, 0, 0, 0, 3, 0, 0, 0, 2],
+        [0, 0, 0, 0, 0, 0, 0, 0, 0, 0, 0, 0, 0, 0, 0, 0],
+    ];
+    for cut in 0..24 {
+        for proposals in &covering {
+            assert!(rt; shakes_so(proposals, Shake::Chosen, cut), "at {cut}");
+        }
+        for proposals in &others {
+            assert!(rt; shakes_so(proposals, Shake::NoVersion, cut), "at {cut}");
         }
     }
 }
