@@ -5,6 +5,8 @@ use crate::{
     write_response,
 };
 use ncc_pack::Bytes;
+use std::alloc::Global;
+use std::process::Abort;
 use std::test::Fail;
 
 /// The name of a request, as the standard has it.
@@ -33,6 +35,57 @@ fn response_name(response: &Response) -> &'static str {
     }
 }
 
+/// Reads a request, and writes a copy of it behind a byte.
+fn request_both_ways(
+    rt: &impl Abort,
+    alloc: Global,
+    name: &str,
+    message: &[u8],
+) -> Result<(), Fail> {
+    let request = read_request(alloc, message)?.copy()?;
+    assert_eq!(rt; request_name(&request), name);
+    assert!(rt; request.fits());
+    let mut written = Bytes::from_slice(alloc, &[9])?;
+    write_request(&request, &mut written)?;
+    let mut want = Bytes::from_slice(alloc, &[9])?;
+    want.extend(message)?;
+    assert_eq!(rt; written.as_slice(), want.as_slice());
+    Ok(())
+}
+
+/// Reads a response, and writes a copy of it behind a byte.
+fn response_both_ways(
+    rt: &impl Abort,
+    alloc: Global,
+    name: &str,
+    message: &[u8],
+) -> Result<(), Fail> {
+    let response = read_response(alloc, message)?.copy()?;
+    assert_eq!(rt; response_name(&response), name);
+    assert!(rt; response.fits());
+    let mut written = Bytes::from_slice(alloc, &[9])?;
+    write_response(&response, &mut written)?;
+    let mut want = Bytes::from_slice(alloc, &[9])?;
+    want.extend(message)?;
+    assert_eq!(rt; written.as_slice(), want.as_slice());
+    Ok(())
+}
+
+/// The error as a text; the empty text where the message was read.
+fn request_error(alloc: Global, message: &[u8]) -> Result<String, Fail> {
+    match read_request(alloc, message) {
+        Ok(_) => Ok(String::new(alloc)),
+        Err(error) => Ok(error.to_string(alloc)?),
+    }
+}
+
+fn response_error(alloc: Global, message: &[u8]) -> Result<String, Fail> {
+    match read_response(alloc, message) {
+        Ok(_) => Ok(String::new(alloc)),
+        Err(error) => Ok(error.to_string(alloc)?),
+    }
+}
+
 #[test]
 fn requests_both_ways(rt: HostRuntime) -> Result<(), Fail> {
     one_request();
@@ -57,13 +110,7 @@ fn requests_both_ways(rt: HostRuntime) -> Result<(), Fail> {
         ),
     ];
     for (name, message) in table {
-        let request = read_request(rt.alloc(), message)?.copy()?;
-        assert_eq!(rt; request_name(&request), name);
-        assert!(rt; request.fits(), "{name}");
-        let mut written = Bytes::from_slice(rt.alloc(), &[9])?;
-        write_request(&request, &mut written)?;
-        assert_eq!(rt; written.as_slice()[0], 9, "{name}");
-        assert_eq!(rt; &written.as_slice()[1..], message, "{name}");
+        request_both_ways(&rt, rt.alloc(), name, message)?;
     }
     Ok(())
 }
@@ -78,13 +125,7 @@ fn responses_both_ways(rt: HostRuntime) -> Result<(), Fail> {
         ("FAILURE", &[0xB1, 0x7F, 0xA1, 0x81, 0x6B, 0x82, 0x6E, 0x6F]),
     ];
     for (name, message) in table {
-        let response = read_response(rt.alloc(), message)?.copy()?;
-        assert_eq!(rt; response_name(&response), name);
-        assert!(rt; response.fits(), "{name}");
-        let mut written = Bytes::from_slice(rt.alloc(), &[9])?;
-        write_response(&response, &mut written)?;
-        assert_eq!(rt; written.as_slice()[0], 9, "{name}");
-        assert_eq!(rt; &written.as_slice()[1..], message, "{name}");
+        response_both_ways(&rt, rt.alloc(), name, message)?;
     }
     Ok(())
 }
@@ -136,10 +177,8 @@ fn refused_requests(rt: HostRuntime) -> Result<(), Fail> {
         ),
     ];
     for (message, want) in table {
-        match read_request(rt.alloc(), message) {
-            Ok(_) => assert!(rt; false, "read as a request"),
-            Err(error) => assert_eq!(rt; error.to_string(rt.alloc())?.as_str(), want),
-        }
+        let error = request_error(rt.alloc(), message)?;
+        assert_eq!(rt; error.as_str(), want);
     }
     Ok(())
 }
@@ -168,10 +207,8 @@ fn refused_responses(rt: HostRuntime) -> Result<(), Fail> {
         ),
     ];
     for (message, want) in table {
-        match read_response(rt.alloc(), message) {
-            Ok(_) => assert!(rt; false, "read as a response"),
-            Err(error) => assert_eq!(rt; error.to_string(rt.alloc())?.as_str(), want),
-        }
+        let error = response_error(rt.alloc(), message)?;
+        assert_eq!(rt; error.as_str(), want);
     }
     Ok(())
 }
@@ -185,10 +222,8 @@ fn levels_count_from_each_field(rt: HostRuntime) -> Result<(), Fail> {
             message.push(0x91)?;
         }
         message.push(0x90)?;
-        match read_response(rt.alloc(), message.as_slice()) {
-            Ok(_) => assert_eq!(rt; want, ""),
-            Err(error) => assert_eq!(rt; error.to_string(rt.alloc())?.as_str(), want),
-        }
+        let error = response_error(rt.alloc(), message.as_slice())?;
+        assert_eq!(rt; error.as_str(), want);
     }
     Ok(())
 }
