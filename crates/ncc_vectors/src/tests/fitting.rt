@@ -75,17 +75,17 @@ const LABELS: &str = "90 | yes
 92 C3 81 61 | no";
 
 /// A value that fits is written in as many bytes as is told, and read again.
-fn fits(rt: &impl Abort, alloc: Global, value: &Value, want: &str) -> Result<(), Fail> {
+fn fits(rt: &impl Abort, alloc: Global, value: &Value, want: &str, case: &str) -> Result<(), Fail> {
     let fits = value.fits();
-    assert_eq!(rt; if fits { "yes" } else { "no" }, want);
+    assert_eq!(rt; if fits { "yes" } else { "no" }, want, "{case}");
     if !fits {
         return Ok(());
     }
     let mut bytes = Bytes::new(alloc);
     encode(value, &mut bytes)?;
-    assert_eq!(rt; bytes.len() as u64, short_len(value));
+    assert_eq!(rt; bytes.len() as u64, short_len(value), "{case}");
     let (_, found) = decode(alloc, bytes.as_slice())?;
-    assert_eq!(rt; found, bytes.len());
+    assert_eq!(rt; found, bytes.len(), "{case}");
     Ok(())
 }
 
@@ -123,7 +123,7 @@ fn fits_by_levels(rt: HostRuntime) -> Result<(), Fail> {
         let bytes = bytes_of(rt.alloc(), bytes)?;
         let (value, _) = decode(rt.alloc(), bytes.as_slice())?;
         let value = wrapped(rt.alloc(), value, levels.parse::<u32>()?)?;
-        fits(&rt, rt.alloc(), &value, want)?;
+        fits(&rt, rt.alloc(), &value, want, line)?;
     }
     Ok(())
 }
@@ -133,10 +133,10 @@ fn fits_by_keys(rt: HostRuntime) -> Result<(), Fail> {
     for line in KEYS.lines() {
         let (keys, want) = column(line)?;
         let dict = Value::Dict(dict_of(rt.alloc(), keys)?);
-        fits(&rt, rt.alloc(), &dict, want)?;
+        fits(&rt, rt.alloc(), &dict, want, line)?;
         let props = dict_of(rt.alloc(), keys)?;
         let node = node_of(Sequence::new(rt.alloc()), props);
-        fits(&rt, rt.alloc(), &node, want)?;
+        fits(&rt, rt.alloc(), &node, want, line)?;
     }
     Ok(())
 }
@@ -151,7 +151,7 @@ fn fits_by_labels(rt: HostRuntime) -> Result<(), Fail> {
             return Err(Fail::new("no list"));
         };
         let node = node_of(labels, Sequence::new(rt.alloc()));
-        fits(&rt, rt.alloc(), &node, want)?;
+        fits(&rt, rt.alloc(), &node, want, line)?;
     }
     Ok(())
 }
@@ -174,15 +174,15 @@ fn fits_by_size(rt: HostRuntime) -> Result<(), Fail> {
     for (count, want) in [(16_777_216, "yes"), (16_777_217, "no")] {
         let text = letters(rt.alloc(), count)?;
         let held = Bytes::from_slice(rt.alloc(), text.as_str().as_bytes())?;
-        fits(&rt, rt.alloc(), &Value::Bytes(held), want)?;
+        fits(&rt, rt.alloc(), &Value::Bytes(held), want, "bytes")?;
         let mut pairs = Sequence::new(rt.alloc());
         pairs.push((text.copy()?, Value::Null))?;
-        fits(&rt, rt.alloc(), &Value::Dict(pairs), want)?;
+        fits(&rt, rt.alloc(), &Value::Dict(pairs), want, "a key")?;
         let mut labels = Sequence::new(rt.alloc());
         labels.push(Value::Text(text.copy()?))?;
         let node = node_of(labels, Sequence::new(rt.alloc()));
-        fits(&rt, rt.alloc(), &node, want)?;
-        fits(&rt, rt.alloc(), &Value::Text(text), want)?;
+        fits(&rt, rt.alloc(), &node, want, "a label")?;
+        fits(&rt, rt.alloc(), &Value::Text(text), want, "a text")?;
     }
     Ok(())
 }
