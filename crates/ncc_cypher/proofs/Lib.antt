@@ -2,3 +2,14 @@ pub mod Lexemes
 pub mod Small
 pub mod Runs
 pub mod Tokens_read
+pub mod Keys
+pub mod Lists
+pub mod Shown
+pub mod Head_shows
+pub mod Body_shows
+pub mod Sound
+pub mod Complete
+pub mod Sources
+pub mod Continue
+pub mod Marked
+pub mod Answered

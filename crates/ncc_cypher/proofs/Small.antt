@@ -8,6 +8,7 @@ use Rattle.std.proofs.lemmas.Bool.{cases_lt}
 use Rattle.std.proofs.lemmas.Bool.Decides.{nat_tests}
 use Rattle.ncc_cypher.specs.declared.class.Class.{Class}
 use Rattle.ncc_cypher.specs.declared.class.Class.TheVariants.{Letter, Zero, Digit, Minus, Quote, Sign, Blank, Other}
+use Rattle.ncc_cypher.specs.Token.{is_blank}
 use Rattle.ncc_cypher.specs.Class.{class, is_digit, is_word}
 
 large : (b : ℕ) → 128 ≤ b → class b ≡ Other
@@ -26,6 +27,13 @@ digit_small b e =
     elim (cases_lt b 128) [
       | inl lt ↦ lt
       | inr le ↦ absurd (let k : is_digit b ≡ false = rw (large b le) refl in let g : true ≡ false = sym e ∙ k in cc)
+    ]
+
+pub blank_small : (b : ℕ) → is_blank b ≡ true → b < 128
+blank_small b e =
+    elim (cases_lt b 128) [
+      | inl lt ↦ lt
+      | inr le ↦ absurd (let k : is_blank b ≡ false = rw (large b le) refl in let g : true ≡ false = sym e ∙ k in cc)
     ]
 
 at_zero : (bs : List ℕ) (n : ℕ) → IsUtf8 bs → n ≡ 0 → IsCharBoundary bs n

@@ -5,3 +5,10 @@ pub mod Token
 pub mod Scan
 pub mod Body
 pub mod Stops
+pub mod Grammar
+pub mod Machine
+pub mod Columns
+pub mod Spelled
+pub mod Marks
+pub mod Outcome
+pub mod Writing

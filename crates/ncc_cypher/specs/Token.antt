@@ -82,8 +82,8 @@ abbrev pub tokens_of : List Placed → List Token
 tokens_of [] = []
 tokens_of (p ∷ ps) = p.what ∷ tokens_of ps
 
--- bytes, the tokens that they begin with, and what is left behind these and blanks
+-- bytes, the tokens that they begin with, and what is left behind these
 pub data Tokens : List ℕ → List Placed → List ℕ → Type 0 where
-  stop : (bytes end : List ℕ) → past_blanks bytes ≡ end → Tokens bytes [] end
+  stop : (bytes : List ℕ) → Tokens bytes [] bytes
   more : (bytes rest end : List ℕ) (token : Token) (others : List Placed) → Begins (past_blanks bytes) token rest → Tokens rest others end
       → Tokens bytes (record { what = token; from = past_blanks bytes; to = rest } ∷ others) end

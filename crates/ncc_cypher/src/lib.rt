@@ -1,13 +1,26 @@
 //! Statements of the served part of Cypher: reading them from a source, and printing them.
 #![tactic(auto)]
 
+mod change;
 mod class;
+mod count;
+mod draft;
+mod error;
+mod head;
 mod lex;
+mod marks;
 mod number;
+mod reading;
 mod slice;
+mod state;
+mod step;
+mod sum;
 mod text;
 mod token;
 mod tree;
 mod word;
+mod writes;
 
 pub use tree::{Change, Columns, Expr, Head, Item, Items, Pair, Pairs, Statement, Tail, Term, Terms};
+pub use error::{ParseError, SyntaxKind};
+pub use reading::parse;

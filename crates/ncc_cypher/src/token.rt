@@ -3,7 +3,7 @@
 use ncc_pack::Text;
 
 /// A token of a source: a keyword, a value, a name or a sign.
-#[derive(Debug, Drop)]
+#[derive(Drop)]
 pub enum Token {
     Create,
     Match,

@@ -2,6 +2,7 @@
 
 ghost use Rattle.std.specs.Prelude.{◌≡◌, take, drop};
 ghost use Rattle.std.specs.List.{prefix_len};
+ghost use Rattle.ncc_cypher.specs.Token.{is_blank, past_blanks};
 ghost use Rattle.ncc_cypher.specs.Class.{is_word, is_digit, is_word_class, is_digit_class};
 
 use crate::class::{Class, class_of};
@@ -52,4 +53,28 @@ pub(crate) fn digits_split(text: &str) -> (&str, &str)
 {
     let n = digits_len(text.as_bytes());
     text.split_at(n)
+}
+
+fn is_blank(b: u8) -> bool
+    ensures { result ≡ is_blank b }
+{
+    match class_of(b) {
+        Class::Blank => true,
+        _ => false,
+    }
+}
+
+fn blanks_len(bytes: &[u8]) -> usize
+    ensures { result ≡ prefix_len is_blank bytes.now }
+{
+    bytes.iter().take_while(|b| is_blank(**b)).count()
+}
+
+/// The text behind the spaces, tabs, CR and LF that it begins with.
+pub(crate) fn past_blanks(text: &str) -> &str
+    ensures { result.now ≡ past_blanks text.now }
+{
+    let n = blanks_len(text.as_bytes());
+    let (_, rest) = text.split_at(n);
+    rest
 }
