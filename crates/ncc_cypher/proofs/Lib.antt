@@ -13,3 +13,4 @@ pub mod Sources
 pub mod Continue
 pub mod Marked
 pub mod Answered
+pub mod Printed

@@ -12,3 +12,4 @@ pub mod Spelled
 pub mod Marks
 pub mod Outcome
 pub mod Writing
+pub mod Print
