@@ -110,9 +110,6 @@ state_is x y e = cc
 statement_is : (x y : Statement) → Some x ≡ Some y → x ≡ y
 statement_is x y e = cc
 
-no_state : Option State
-no_state = None
-
 no_state_is : (x : State) → None ≡ Some x → ⊥
 no_state_is x e = cc
 

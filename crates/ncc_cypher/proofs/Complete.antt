@@ -84,7 +84,7 @@ terms_run w b x (y ∷ ys) f fs =
     let n : Option Name = scope w in
     let others : List Token = term n y ++ further (term n) t.Plus ys in
     λ us. ap (run (s.Needs w b)) (append_assoc (term n x) (t.Plus ∷ others) us) ∙ term_run w b x f (t.Plus ∷ (others ++ us)) ∙ terms_run w (b ++ (x ∷ [])) y ys fs.0 fs.1 us
-        ∙ ap (λ (z : List Term). run (s.After w z) us) (append_assoc b (x ∷ []) (y ∷ ys))
+    ∙ ap (λ (z : List Term). run (s.After w z) us) (append_assoc b (x ∷ []) (y ∷ ys))
 
 sum_run : (w : Place) (e : List Term) → IsSum (scope w) e → Goes_by (s.Needs w []) (sum (scope w) e) (s.After w e)
 sum_run w [] f = absurd f.0
@@ -115,7 +115,7 @@ pairs_run a n b x (y ∷ ys) new f fs =
     λ us.
     let e : ((pair x ++ further pair t.Comma (y ∷ ys)) ++ (t.RightBrace ∷ [])) ++ us ≡ pair x ++ (t.Comma ∷ (others ++ us)) = simp append_assoc in
     ap (run (s.Further q b)) e ∙ pair_run q b x new.0 f (t.Comma ∷ (others ++ us)) ∙ pairs_run a n (b ++ (x ∷ [])) y ys new.1 fs.0 fs.1 us
-        ∙ ap (λ (z : List Pair). run (s.Closing (a_made (h.Create a z) n)) us) (append_assoc b (x ∷ []) (y ∷ ys))
+    ∙ ap (λ (z : List Pair). run (s.Closing (a_made (h.Create a z) n)) us) (append_assoc b (x ∷ []) (y ∷ ys))
 
 -- the first key is like a further one where no pair stands
 first_key : (n : Node) (k : Name) (us : List Token) → run (s.Braced n) (t.Name k ∷ us) ≡ run (s.Further n []) (t.Name k ∷ us)
@@ -200,8 +200,7 @@ changes_run a n b x [] e f fs = (
 )
 changes_run a n b x (y ∷ ys) e f fs =
     let others : List Token = change a.name y ++ further (change a.name) t.Comma ys in
-    let w = changes_run a n (b ++ (x ∷ [])) y ys e fs.0 fs.1 in
-    (
+    let w = changes_run a n (b ++ (x ∷ [])) y ys e fs.0 fs.1 in (
       w.0,
       λ us. ap (run (s.Setting a b)) (append_assoc (change a.name x) (t.Comma ∷ others) us) ∙ change_run a n b x e f (t.Comma ∷ (others ++ us)) ∙ w.1 us,
       record { before = w.2.before; x = w.2.x; all = w.2.all ∙ append_assoc b (x ∷ []) (y ∷ ys); is = w.2.is },
@@ -236,8 +235,7 @@ named_run b xs x None f =
     let w = item_run b xs x f in
     (w.0, (λ us. ap (λ (z : List Token). run (s.Needs (p.Item b xs) []) (z ++ us)) (append-nil (item b.made.name x)) ∙ w.1 us), w.2)
 named_run b xs x (Some a) f =
-    let w = item_run b xs x f in
-    (
+    let w = item_run b xs x f in (
       s.Aliased b (xs ++ (x ∷ [])),
       (λ us. ap (run (s.Needs (p.Item b xs) [])) (append_assoc (item b.made.name x) (t.As ∷ t.Name a ∷ []) us) ∙ w.1 (t.As ∷ t.Name a ∷ us) ∙ ap (then_run (λ z. run z (t.Name a ∷ us))) w.3),
       record { last = refl; comma = refl },
@@ -342,8 +340,7 @@ items_named : (b : Body) (ns : List Named) (xs : List Item) → NotEmpty xs → 
 items_named b [] [] ne f e = absurd ne
 items_named b [] (x ∷ xs) ne f e = absurd cc
 items_named b (n ∷ ns) xs ne f e =
-    let g : Every (IsItem b.made.name) (n.item ∷ items_of ns) = subst (Every (IsItem b.made.name)) (sym e) f in
-    (
+    let g : Every (IsItem b.made.name) (n.item ∷ items_of ns) = subst (Every (IsItem b.made.name)) (sym e) f in (
       subst (λ (z : List Item). Accepted (run (s.Needs (p.Item b []) []) (named b.made.name n ++ further (named b.made.name) t.Comma ns)) (a_statement b (l.Items z))) e (items_run b [] n ns g.0 g.1),
       named_second b.made.name n (further (named b.made.name) t.Comma ns) g.0 (further_no_open b.made.name ns),
     )

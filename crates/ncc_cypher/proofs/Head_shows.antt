@@ -36,7 +36,6 @@ pub let_on : (b : Bool) (a r : State) → when b a ≡ Some r → (b ≡ true) �
 let_on true a r e = (refl, e)
 let_on false a r e = never r e
 
-
 abbrev pub braces : Bool → Choice → Choice
 braces b k = record k { braces = b }
 
@@ -129,14 +128,6 @@ keyed_shows k n ps q t.Colon r fine e = goes_to k (s.Keyed n ps q) t.Colon (s.Ne
 keyed_shows k n ps q _ r fine e = never r e
 
 -- behind a pair: a further one, or the brace
-pub before_pair : Node → List Pair → Pair → List Token
-before_pair n ps x = node_tokens n ++ (t.LeftBrace ∷ (each_then pair t.Comma ps ++ pair x))
-
-record Behind (k : Choice) (ts : List Token) (y : Token) (r : State) : Type 0 where
-  pub choice : Choice
-  pub text : shown choice r ≡ ts ++ (y ∷ [])
-  pub fine : Fine choice r
-
 last_shows : (k : Choice) (a : Opening) (n : Option Name) (ps : List Pair) (x : Pair) → FewPairs a ps → pattern true n (with_pair a ps x) ≡ opened a n ++ (t.LeftBrace ∷ (each_then pair t.Comma ps ++ (pair x ++ (t.RightBrace ∷ []))))
 last_shows k (o.Create a) None ps x fp = rw (parted_last pair t.Comma ps x) (simp append_assoc)
 last_shows k (o.Create a) (Some n) ps x fp = rw (parted_last pair t.Comma ps x) (simp append_assoc)

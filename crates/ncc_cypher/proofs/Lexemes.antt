@@ -113,7 +113,7 @@ pub record Reads (x : Lexeme) (w rest : List ℕ) : Type 0 where
   pub same : n ≡ 0 → y ≡ x
   pub stop : prefix_len is_word rest ≡ 0 → prefix_len is_digit rest ≡ 0 → n ≡ 0
 
-by_is : (b : ℕ) (c : Class) (bs : List ℕ) → class b ≡ c → lexeme_at (b ∷ bs) ≡ by_class c b bs
+pub by_is : (b : ℕ) (c : Class) (bs : List ℕ) → class b ≡ c → lexeme_at (b ∷ bs) ≡ by_class c b bs
 unfolding lexeme_at
 by_is b c bs e = ap (λ (k : Class). by_class k b bs) e
 
@@ -256,4 +256,3 @@ only bytes x rest l =
     let le : length t.front ≤ length l.front = l.longest r.y t.front (drop r.n rest) t.written t.parts in
     let n : r.n ≡ 0 = omega (arith, le, length-drop r.n rest, ap length t.parts, ap length l.parts, length-append t.front (drop r.n rest), length-append l.front rest, r.fits) in
     e ∙ ap (λ (z : Lexeme). Some (z, drop r.n rest)) (r.same n) ∙ ap (λ (k : ℕ). Some (x, drop k rest)) n
-

@@ -14,3 +14,5 @@ pub mod Continue
 pub mod Marked
 pub mod Answered
 pub mod Printed
+pub mod Glue
+pub mod Reparse

@@ -66,8 +66,8 @@ pub list_step : {A : Type 0} (f : A → List ℕ) (sep : List ℕ) (xs : List A)
 list_step {A = A} f sep xs i d start out a b lt e g h =
     let k : take (i + 1) xs ≡ take i xs ++ (get_or xs i d ∷ []) = take_more xs i d lt in
     h ∙ ap (λ (z : List ℕ). z ++ f (get_or xs i d)) g ∙ ap (λ (z : List ℕ). (z ++ sep) ++ f (get_or xs i d)) e
-        ∙ append_assoc (start ++ further f sep (take i xs)) sep (f (get_or xs i d)) ∙ append_assoc start (further f sep (take i xs)) (sep ++ f (get_or xs i d))
-        ∙ ap (λ (z : List ℕ). start ++ z) (sym (further_more f sep (take i xs) (get_or xs i d))) ∙ ap (λ (z : List A). start ++ further f sep z) (sym k)
+    ∙ append_assoc (start ++ further f sep (take i xs)) sep (f (get_or xs i d)) ∙ append_assoc start (further f sep (take i xs)) (sep ++ f (get_or xs i d))
+    ∙ ap (λ (z : List ℕ). start ++ z) (sym (further_more f sep (take i xs) (get_or xs i d))) ∙ ap (λ (z : List A). start ++ further f sep z) (sym k)
 
 pub three : (o a b c x y z : List ℕ) → a ≡ o ++ x → b ≡ a ++ y → c ≡ b ++ z → c ≡ o ++ (x ++ (y ++ z))
 three o a b c x y z e f g = g ∙ ap (λ (q : List ℕ). q ++ z) f ∙ ap (λ (q : List ℕ). (q ++ y) ++ z) e ∙ simp append_assoc

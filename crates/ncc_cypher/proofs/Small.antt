@@ -43,10 +43,10 @@ pub cut : (p : ℕ → Bool) (bs : List ℕ) → ((b : ℕ) → p b ≡ true →
 cut p bs small u =
     elim (cases_lt 0 (prefix_len p bs)) [
       | inl lt ↦
-        let n : ℕ = prefix_len p bs - 1 in
-        let le : prefix_len p bs ≤ length bs = prefix_len-le-length p bs in
-        let here : get_or bs n 0 < 128 = small (get_or bs n 0) (prefix_len_passes p bs n 0 (omega arith)) in
-        let e : n + 1 ≡ prefix_len p bs = omega arith in
-        subst (λ (k : ℕ). IsCharBoundary bs k) e (IsCharBoundary-after_ascii bs n u (omega (arith, le)) here)
+          let n : ℕ = prefix_len p bs - 1 in
+          let le : prefix_len p bs ≤ length bs = prefix_len-le-length p bs in
+          let here : get_or bs n 0 < 128 = small (get_or bs n 0) (prefix_len_passes p bs n 0 (omega arith)) in
+          let e : n + 1 ≡ prefix_len p bs = omega arith in
+          subst (λ (k : ℕ). IsCharBoundary bs k) e (IsCharBoundary-after_ascii bs n u (omega (arith, le)) here)
       | inr le ↦ at_zero bs (prefix_len p bs) u (omega arith)
     ]

@@ -82,7 +82,6 @@ pub goes_further : (bytes : List ℕ) (ps : List Placed) (end : List ℕ) (qs : 
 goes_further _ _ _ qs whole (k.stop bytes) o e = record { left = qs; parts = refl; tokens = o }
 goes_further _ _ _ qs whole (k.more bytes rest end t others b o) p e = both_more bytes rest end t others qs whole (λ us w q f. goes_further rest others end us w o q f) b p e
 
-
 -- ---- tokens that some bytes write
 
 pub record IsToken (t : Token) : Type 0 where

@@ -164,8 +164,7 @@ zero_digits (b ∷ bs) lt e = (ap (λ (k : Class). digits_by k b bs) e, (digit_w
 pub more_digits : (bs : List ℕ) → 0 < length bs → class (get_or bs 0 0) ≡ Digit → (digits_at bs ≡ Some (take (prefix_len is_digit bs) bs, drop (prefix_len is_digit bs) bs)) × AllDigits 10 (take (prefix_len is_digit bs) bs) × (0 < length (take (prefix_len is_digit bs) bs))
 more_digits [] lt e = absurd (omega arith)
 more_digits (b ∷ bs) lt e =
-    let f = front_of is_digit b bs (ap is_digit_class e) in
-    (
+    let f = front_of is_digit b bs (ap is_digit_class e) in (
       ap (λ (k : Class). digits_by k b bs) e ∙ ap (λ (z : List ℕ). Some (z, drop (prefix_len is_digit bs) bs)) (sym f.0) ∙ ap (λ (z : List ℕ). Some (take (prefix_len is_digit (b ∷ bs)) (b ∷ bs), z)) (sym f.1),
       all_digits _ (passes_front is_digit (b ∷ bs)),
       (let p : length (take (prefix_len is_digit (b ∷ bs)) (b ∷ bs)) ≡ suc (length (take (prefix_len is_digit bs) bs)) = ap length f.0 in omega arith),

@@ -47,3 +47,7 @@ abbrev pub IsOrMemory : Result Statement ParseError → Result Statement ParseEr
 IsOrMemory (Err Memory) r = Unit {0}
 IsOrMemory (Err e) r = r ≡ Err e
 IsOrMemory (Ok s) r = r ≡ Ok s
+
+-- the source spells the statement, but for its columns
+abbrev pub Again : Statement → List ℕ → Type 0
+Again s source = (names : List (List ℕ)) × Spelled (record s { columns = names }) source

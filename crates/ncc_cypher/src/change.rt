@@ -112,10 +112,7 @@ pub(crate) fn at_set_keyed(
     ensures { result ≡ at_set_keyed made pairs key token }
 {
     match token {
-        Token::Equals => Some(State::Needs(
-            Place::Set { made, pairs, key },
-            Terms::new(alloc),
-        )),
+        Token::Equals => Some(State::Needs(Place::Set { made, pairs, key }, Terms::new(alloc))),
         _ => None,
     }
 }

@@ -28,11 +28,7 @@ fn first_name(alloc: Global, bound: bool, count: bool, body: Body) -> Option<Sta
 }
 
 /// Behind RETURN.
-pub(crate) fn at_returning(
-    alloc: Global,
-    body: Body,
-    token: Token,
-) -> Result<Option<State>, Memory>
+pub(crate) fn at_returning(alloc: Global, body: Body, token: Token) -> Result<Option<State>, Memory>
     ensures { IfOk result (λ r. r ≡ at_returning body token) }
 {
     match token {
@@ -66,12 +62,7 @@ pub(crate) fn at_either(alloc: Global, body: Body, token: Token) -> Result<Optio
         Token::Open => Ok(Some(State::CountOpened(body))),
         other => {
             let items = Items::new(alloc);
-            at_owned(
-                alloc,
-                Place::Item { body, items },
-                Terms::new(alloc),
-                other,
-            )
+            at_owned(alloc, Place::Item { body, items }, Terms::new(alloc), other)
         }
     }
 }

@@ -198,10 +198,7 @@ pub(crate) fn at_keyed(
     ensures { result ≡ at_keyed node draft key token }
 {
     match token {
-        Token::Colon => Some(State::Needs(
-            Place::Pair { node, draft, key },
-            Terms::new(alloc),
-        )),
+        Token::Colon => Some(State::Needs(Place::Pair { node, draft, key }, Terms::new(alloc))),
         _ => None,
     }
 }
@@ -225,12 +222,7 @@ fn with_pair(opening: Opening, draft: Draft, pair: Pair) -> Result<Head, Memory>
 }
 
 /// Behind a comma behind a pair, which only CREATE has.
-fn more_pairs(
-    alloc: Global,
-    node: Node,
-    draft: Draft,
-    pair: Pair,
-) -> Result<Option<State>, Memory>
+fn more_pairs(alloc: Global, node: Node, draft: Draft, pair: Pair) -> Result<Option<State>, Memory>
     ensures { IfOk result (λ r. r ≡ more_pairs node.opening (State.Further node (draft ++ pair ∷ []))) }
 {
     let Node { opening, name } = node;

@@ -160,10 +160,7 @@ fn quoted_at<'a>(
 }
 
 /// The token that the text begins with, and what follows it.
-pub(crate) fn token_at<'a>(
-    alloc: Global,
-    text: &'a str,
-) -> Result<Option<(Token, &'a str)>, Memory>
+pub(crate) fn token_at<'a>(alloc: Global, text: &'a str) -> Result<Option<(Token, &'a str)>, Memory>
     ensures token { IfOk result (λ r. read r ≡ token_at text.now) }
     ensures rest { IfOk result (λ r. RestIsText r) }
 {

@@ -24,7 +24,9 @@ mod tree;
 mod word;
 mod writes;
 
-pub use tree::{Change, Columns, Expr, Head, Item, Items, Pair, Pairs, Statement, Tail, Term, Terms};
 pub use error::{ParseError, SyntaxKind};
-pub use reading::parse;
 pub use printing::print;
+pub use reading::parse;
+pub use tree::{
+    Change, Columns, Expr, Head, Item, Items, Pair, Pairs, Statement, Tail, Term, Terms,
+};

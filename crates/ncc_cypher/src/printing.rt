@@ -1,9 +1,10 @@
 //! Printing statements.
 
-ghost use Rattle.std.specs.Prelude.{◌≡◌, ◌++◌, ◌∷◌, [], IfOk, OnOk, codes, Some};
+ghost use Rattle.std.specs.Prelude.{◌≡◌, ◌++◌, ◌∷◌, [], IfOk, OnOk, codes, Some, List, ℕ};
 ghost use Rattle.std.specs.Fmt.{signed_decimal};
 ghost use Rattle.ncc_cypher.specs.Print as p;
 ghost use Rattle.ncc_cypher.specs.Print.{printed};
+ghost use Rattle.ncc_cypher.specs.Spelled.{Spelled, Again};
 
 use crate::slice::{before, past, plain_split};
 use crate::tree::{Change, Expr, Head, Item, Pair, Statement, Tail, Term};
@@ -12,7 +13,12 @@ use std::alloc::Global;
 
 /// Further ones, each with a comma before it.
 #[tactic(auto, using(crate::proofs::Printed::further_more))]
-fn put_further_items(alloc: Global, out: &mut Text, name: &Option<Text>, items: &[Item]) -> Result<(), Memory>
+fn put_further_items(
+    alloc: Global,
+    out: &mut Text,
+    name: &Option<Text>,
+    items: &[Item],
+) -> Result<(), Memory>
     ensures { OnOk result (out.new ≡ out.old ++ p.further (p.item name.now) (codes ", ") items.now) }
 {
     for item in items {
@@ -24,7 +30,12 @@ fn put_further_items(alloc: Global, out: &mut Text, name: &Option<Text>, items: 
 
 /// Further ones, each with a comma before it.
 #[tactic(auto, using(crate::proofs::Printed::further_more))]
-fn put_further_changes(alloc: Global, out: &mut Text, name: &Option<Text>, pairs: &[Pair]) -> Result<(), Memory>
+fn put_further_changes(
+    alloc: Global,
+    out: &mut Text,
+    name: &Option<Text>,
+    pairs: &[Pair],
+) -> Result<(), Memory>
     ensures { OnOk result (out.new ≡ out.old ++ p.further (p.change name.now) (codes ", ") pairs.now) }
 {
     for pair in pairs {
@@ -114,7 +125,12 @@ fn put_term(alloc: Global, out: &mut Text, name: &Option<Text>, term: &Term) -> 
 
 /// Further terms, each with `+` before it.
 #[tactic(auto, using(crate::proofs::Printed::further_more))]
-fn put_terms(alloc: Global, out: &mut Text, name: &Option<Text>, terms: &[Term]) -> Result<(), Memory>
+fn put_terms(
+    alloc: Global,
+    out: &mut Text,
+    name: &Option<Text>,
+    terms: &[Term],
+) -> Result<(), Memory>
     ensures { OnOk result (out.new ≡ out.old ++ p.further (p.term name.now) (codes " + ") terms.now) }
 {
     for term in terms {
@@ -145,12 +161,7 @@ fn put_pair(alloc: Global, out: &mut Text, pair: &Pair) -> Result<(), Memory>
 }
 
 /// The changes of SET.
-fn put_change(
-    alloc: Global,
-    out: &mut Text,
-    name: &Option<Text>,
-    pair: &Pair,
-) -> Result<(), Memory>
+fn put_change(alloc: Global, out: &mut Text, name: &Option<Text>, pair: &Pair) -> Result<(), Memory>
     ensures { OnOk result (out.new ≡ out.old ++ p.change name.now pair.now) }
 {
     put_name(out, name)?;
@@ -249,12 +260,7 @@ fn put_single(alloc: Global, out: &mut Text, pair: &Pair) -> Result<(), Memory>
 }
 
 /// The keyword, the name and the label of a head.
-fn put_opening(
-    out: &mut Text,
-    verb: &str,
-    name: &Option<Text>,
-    label: &Text,
-) -> Result<(), Memory>
+fn put_opening(out: &mut Text, verb: &str, name: &Option<Text>, label: &Text) -> Result<(), Memory>
     ensures { OnOk result (out.new ≡ out.old ++ (verb.now ++ (p.name name.now ++ p.label (Some label.now)))) }
 {
     out.push_str(verb)?;
@@ -352,9 +358,8 @@ fn put_tail(alloc: Global, out: &mut Text, name: &Option<Text>, tail: &Tail) -> 
     }
 }
 
-/// The one text of a statement, by the rules of `docs/CYPHER.md`. No AS and no semicolon is in it, so that its columns
-/// may be named otherwise.
-pub fn print(alloc: Global, statement: &Statement) -> Result<Text, Memory>
+/// The text of a statement.
+fn text_of(alloc: Global, statement: &Statement) -> Result<Text, Memory>
     ensures { IfOk result (λ t. t ≡ printed statement.now) }
 {
     let mut out = Text::new(alloc);
@@ -363,4 +368,15 @@ pub fn print(alloc: Global, statement: &Statement) -> Result<Text, Memory>
     put_space(&mut out, &statement.head, &statement.tail)?;
     put_tail(alloc, &mut out, &statement.name, &statement.tail)?;
     Ok(out)
+}
+
+/// The one text of a statement, by the rules of `docs/CYPHER.md`. No AS and no semicolon is in it, so that its columns
+/// may be named otherwise. Where the statement is one that some source spells, its text spells it again.
+pub fn print(alloc: Global, statement: &Statement) -> Result<Text, Memory>
+    // The text by the rules.
+    ensures text { IfOk result (λ t. t ≡ printed statement.now) }
+    // It spells a statement that some source spells, but for its columns.
+    ensures again { (source : List ℕ) → Spelled statement.now source → IfOk result (λ t. Again statement.now t) }
+{
+    text_of(alloc, statement)
 }

@@ -148,15 +148,19 @@ fn behind_sum(
 {
     let value = Expr { terms };
     match place {
-        Place::Pair { node, draft, key } => behind_pair(alloc, node, draft, Pair { key, value }, token),
+        Place::Pair { node, draft, key } => behind_pair(
+            alloc,
+            node,
+            draft,
+            Pair { key, value },
+            token,
+        ),
         Place::Set { made, pairs, key } => {
             let mut pairs = pairs;
             pairs.push(Pair { key, value })?;
             Ok(behind_change(made, pairs, token))
         }
-        Place::Item { body, items } => {
-            behind_item(alloc, body, items, Item::Sum(value), token)
-        }
+        Place::Item { body, items } => { behind_item(alloc, body, items, Item::Sum(value), token) }
     }
 }
 
@@ -198,10 +202,7 @@ pub(crate) fn at_aliased(alloc: Global, body: Body, items: Items, token: Token) 
     ensures { result ≡ at_aliased body items token }
 {
     match token {
-        Token::Comma => Some(State::Needs(
-            Place::Item { body, items },
-            Terms::new(alloc),
-        )),
+        Token::Comma => Some(State::Needs(Place::Item { body, items }, Terms::new(alloc))),
         _ => None,
     }
 }

@@ -14,8 +14,16 @@ fn statements(rt: HostRuntime) -> Result<(), Fail> {
         ("RETURN 0", "RETURN 0", "0|"),
         ("RETURN -0", "RETURN 0", "-0|"),
         ("RETURN 1+-1", "RETURN 1 + -1", "1+-1|"),
-        ("RETURN 9223372036854775807 + 1", "RETURN 9223372036854775807 + 1", "9223372036854775807 + 1|"),
-        ("RETURN -9223372036854775808", "RETURN -9223372036854775808", "-9223372036854775808|"),
+        (
+            "RETURN 9223372036854775807 + 1",
+            "RETURN 9223372036854775807 + 1",
+            "9223372036854775807 + 1|",
+        ),
+        (
+            "RETURN -9223372036854775808",
+            "RETURN -9223372036854775808",
+            "-9223372036854775808|",
+        ),
         ("RETURN 1 AS one, 2 AS One", "RETURN 1, 2", "one|One|"),
         ("\tRETURN\r\n1\n", "RETURN 1", "1|"),
         ("RETURN''", "RETURN ''", "''|"),
@@ -23,39 +31,107 @@ fn statements(rt: HostRuntime) -> Result<(), Fail> {
         // texts
         ("RETURN 'a\"b'", "RETURN 'a\"b'", "'a\"b'|"),
         ("RETURN \"it's\"", "RETURN 'it\\'s'", "\"it's\"|"),
-        ("RETURN '\\\\\\'\\\"\\n\\r\\t'", "RETURN '\\\\\\'\"\n\r\t'", "'\\\\\\'\\\"\\n\\r\\t'|"),
+        (
+            "RETURN '\\\\\\'\\\"\\n\\r\\t'",
+            "RETURN '\\\\\\'\"\n\r\t'",
+            "'\\\\\\'\\\"\\n\\r\\t'|",
+        ),
         ("RETURN 'é€' + \"𝄞\"", "RETURN 'é€' + '𝄞'", "'é€' + \"𝄞\"|"),
         ("RETURN 'a\nb'", "RETURN 'a\nb'", "'a\nb'|"),
         // CREATE
         ("CREATE (:A)", "CREATE (:A)", ""),
         ("create(n:A{})", "CREATE (n:A)", ""),
         ("CREATE (n:A {}) RETURN n", "CREATE (n:A) RETURN n", "n|"),
-        ("CREATE (:A {a: 1, b: 'x', A: $p})", "CREATE (:A {a: 1, b: 'x', A: $p})", ""),
-        ("CREATE (n:A{k:1+2})SET n.k=n.k+1,n.k=null RETURN n.k", "CREATE (n:A {k: 1 + 2}) SET n.k = n.k + 1, n.k = NULL RETURN n.k", "n.k|"),
-        ("CREATE (n:A) RETURN count(n)", "CREATE (n:A) RETURN count(n)", "count(n)|"),
+        (
+            "CREATE (:A {a: 1, b: 'x', A: $p})",
+            "CREATE (:A {a: 1, b: 'x', A: $p})",
+            "",
+        ),
+        (
+            "CREATE (n:A{k:1+2})SET n.k=n.k+1,n.k=null RETURN n.k",
+            "CREATE (n:A {k: 1 + 2}) SET n.k = n.k + 1, n.k = NULL RETURN n.k",
+            "n.k|",
+        ),
+        (
+            "CREATE (n:A) RETURN count(n)",
+            "CREATE (n:A) RETURN count(n)",
+            "count(n)|",
+        ),
         ("CREATE (n:A) RETURN 1;", "CREATE (n:A) RETURN 1", "1|"),
-        ("CREATE (_x9:_L) RETURN _x9", "CREATE (_x9:_L) RETURN _x9", "_x9|"),
+        (
+            "CREATE (_x9:_L) RETURN _x9",
+            "CREATE (_x9:_L) RETURN _x9",
+            "_x9|",
+        ),
         // MATCH
         ("MATCH () RETURN 1", "MATCH () RETURN 1", "1|"),
         ("MATCH ({k: 1}) RETURN 1", "MATCH ( {k: 1}) RETURN 1", "1|"),
         ("MATCH (n) RETURN n", "MATCH (n) RETURN n", "n|"),
         ("MATCH (:A) RETURN 1", "MATCH (:A) RETURN 1", "1|"),
-        ("MATCH (n:A {k: null}) RETURN n", "MATCH (n:A {k: NULL}) RETURN n", "n|"),
-        ("MATCH (n {k: $v}) DELETE n", "MATCH (n {k: $v}) DELETE n", ""),
-        ("MATCH (n) DELETE n RETURN COUNT ( n ) AS c", "MATCH (n) DELETE n RETURN count(n)", "c|"),
+        (
+            "MATCH (n:A {k: null}) RETURN n",
+            "MATCH (n:A {k: NULL}) RETURN n",
+            "n|",
+        ),
+        (
+            "MATCH (n {k: $v}) DELETE n",
+            "MATCH (n {k: $v}) DELETE n",
+            "",
+        ),
+        (
+            "MATCH (n) DELETE n RETURN COUNT ( n ) AS c",
+            "MATCH (n) DELETE n RETURN count(n)",
+            "c|",
+        ),
         ("MATCH (n) SET n.a = 1", "MATCH (n) SET n.a = 1", ""),
-        ("MATCH (p:Person {name: 'Ada'}) RETURN p.age", "MATCH (p:Person {name: 'Ada'}) RETURN p.age", "p.age|"),
-        ("MATCH (n) RETURN n, n.a + n . b AS s, 'x'", "MATCH (n) RETURN n, n.a + n.b, 'x'", "n|s|'x'|"),
-        ("MATCH (n) RETURN count(n);", "MATCH (n) RETURN count(n)", "count(n)|"),
+        (
+            "MATCH (p:Person {name: 'Ada'}) RETURN p.age",
+            "MATCH (p:Person {name: 'Ada'}) RETURN p.age",
+            "p.age|",
+        ),
+        (
+            "MATCH (n) RETURN n, n.a + n . b AS s, 'x'",
+            "MATCH (n) RETURN n, n.a + n.b, 'x'",
+            "n|s|'x'|",
+        ),
+        (
+            "MATCH (n) RETURN count(n);",
+            "MATCH (n) RETURN count(n)",
+            "count(n)|",
+        ),
         // `count` as a name and as the function
-        ("MATCH (count) RETURN count", "MATCH (count) RETURN count", "count|"),
-        ("MATCH (count) RETURN count.count", "MATCH (count) RETURN count.count", "count.count|"),
-        ("MATCH (count) RETURN count(count)", "MATCH (count) RETURN count(count)", "count(count)|"),
-        ("MATCH (count) RETURN count AS x;", "MATCH (count) RETURN count", "x|"),
-        ("MATCH (n) RETURN n.count, n.set1", "MATCH (n) RETURN n.count, n.set1", "n.count|n.set1|"),
+        (
+            "MATCH (count) RETURN count",
+            "MATCH (count) RETURN count",
+            "count|",
+        ),
+        (
+            "MATCH (count) RETURN count.count",
+            "MATCH (count) RETURN count.count",
+            "count.count|",
+        ),
+        (
+            "MATCH (count) RETURN count(count)",
+            "MATCH (count) RETURN count(count)",
+            "count(count)|",
+        ),
+        (
+            "MATCH (count) RETURN count AS x;",
+            "MATCH (count) RETURN count",
+            "x|",
+        ),
+        (
+            "MATCH (n) RETURN n.count, n.set1",
+            "MATCH (n) RETURN n.count, n.set1",
+            "n.count|n.set1|",
+        ),
         // MERGE
         ("MERGE (n:A {k: null})", "MERGE (n:A {k: NULL})", ""),
-        ("MERGE (p:Person {name: $name}) SET p.age = $age RETURN p", "MERGE (p:Person {name: $name}) SET p.age = $age RETURN p", "p|"),
+        (
+            "MERGE (p:Person {name: $name}) SET p.age = $age RETURN p",
+            "MERGE (p:Person {name: $name}) SET p.age = $age RETURN p",
+            "p|",
+        ),
         ("merge (:A{k:1});", "MERGE (:A {k: 1})", ""),
     ];
     for (source, text, columns) in table {
@@ -68,7 +144,11 @@ fn statements(rt: HostRuntime) -> Result<(), Fail> {
         }
         assert_eq!(rt; names.as_str(), columns, "at {source}");
         let again = parse(rt.alloc(), text)?;
-        assert_eq!(rt; print(rt.alloc(), &again.copy()?)?.as_str(), text, "at {source}");
+        assert_eq!(rt;
+            print(rt.alloc(), &again.copy()?)?.as_str(),
+            text,
+            "at {source}"
+        );
     }
     Ok(())
 }

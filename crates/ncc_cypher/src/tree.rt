@@ -316,14 +316,20 @@ pub enum Head {
     /// Nothing: the statement is a RETURN that stands alone.
     Alone,
     /// CREATE with a label and any number of pairs.
-    Create { label: Text, pairs: Pairs },
+    Create {
+        label: Text,
+        pairs: Pairs,
+    },
     /// MATCH with a label or none, and a pair or none.
     Find {
         label: Option<Text>,
         pair: Option<Pair>,
     },
     /// MERGE with a label and a pair.
-    Merge { label: Text, pair: Pair },
+    Merge {
+        label: Text,
+        pair: Pair,
+    },
 }
 
 impl Head {

@@ -37,7 +37,7 @@ returns-in-Some-clause-token c =
     let e : take (length c.args.text.now - length c.digits_front.result.1.now) c.args.text.now ≡ get_or c.args.text.now 0 0 ∷ c.digits_front.result.0.now = minus_cut c.args.text.now c.digits_front.result.0.now c.digits_front.result.1.now c.requires.some (rw c.past.ensures at c.digits_front.ensures.parts) in
     let k : Some c.in-Some.n ≡ number_of true c.digits_front.result.0.now = c.in-Some.ensures ∙ ap (λ (z : List ℕ). number_of true (drop 1 z)) (c.before-2.ensures ∙ e) in
     ap (λ (z : ℤ). Some (Int z, c.digits_front.result.1.now)) (to_z-of_z w64 c.in-Some.n (number_fits true c.digits_front.result.0.now c.in-Some.n k))
-        ∙ minus_gives c.args.text.now c.digits_front.result.0.now c.digits_front.result.1.now (Some c.in-Some.n) c.requires.some c.requires.minus d k
+    ∙ minus_gives c.args.text.now c.digits_front.result.0.now c.digits_front.result.1.now (Some c.in-Some.n) c.requires.some c.requires.minus d k
 
 pub returns-in-None-clause-token : goal.returns-in-None-clause-token
 returns-in-None-clause-token c =

@@ -57,7 +57,7 @@ loop-state-preserved c =
     let own : c.before-own.result.now ≡ between (past_blanks c.loop-state.rest.now) c.in-Some.after.now = c.before-own.ensures ∙ ap (λ (z : List ℕ). between z c.in-Some.after.now) c.past_blanks-from.ensures in
     let m : c.in_ok-marks-in-Some.marks ≡ mark_more c.loop-state.marks c.in-Some.token (between c.loop-state.rest.now c.in-Some.after.now) (between (past_blanks c.loop-state.rest.now) c.in-Some.after.now) =
     c.in_ok-marks-in-Some.ensures ∙ ap (λ (z : List ℕ). mark_more c.loop-state.marks c.in-Some.token z c.before-own.result.now) c.before-gap.ensures
-        ∙ ap (λ (z : List ℕ). mark_more c.loop-state.marks c.in-Some.token (between c.loop-state.rest.now c.in-Some.after.now) z) own in
+    ∙ ap (λ (z : List ℕ). mark_more c.loop-state.marks c.in-Some.token (between c.loop-state.rest.now c.in-Some.after.now) z) own in
     record {
       reached = subst (λ (z : Marks). Reached c.args.source.now c.in-Some.after.now c.in-Some-2.next z) (sym m) (reached_more c.args.source.now c.loop-state.rest.now c.in-Some.after.now c.loop-state.state c.in-Some-2.next c.loop-state.marks c.in-Some.token c.loop-state.invariant.reached e f);
       text = subst RestIsText c.in-Some.is c.in_ok-token_at.ensures.rest;
