@@ -1,0 +1,5 @@
+pub mod Fields
+pub mod Messages
+pub mod Table
+pub mod Reading
+pub mod Writing
