@@ -4,7 +4,7 @@ ghost use Rattle.std.specs.Prelude.{◌≡◌};
 ghost use Rattle.ncc_bolt.specs.Writing.{fits_request, fits_response};
 
 use crate::message::{Request, Response};
-use ncc_pack::{fits_dict, fits_text, fits_values};
+use ncc_pack::{dict_fits, text_fits, values_fit};
 
 impl Request {
     /// Says whether each field has a spelling, as `Value::fits` says it of the value that the field is. It takes no memory.
@@ -12,24 +12,24 @@ impl Request {
         ensures { result ≡ fits_request self.now }
     {
         match self {
-            Request::Hello { extra } => fits_dict(extra),
+            Request::Hello { extra } => dict_fits(extra),
             Request::Goodbye => true,
             Request::Reset => true,
             Request::Run {
                 query,
                 params,
                 extra,
-            } => fits_text(query) && fits_dict(params) && fits_dict(extra),
-            Request::Begin { extra } => fits_dict(extra),
+            } => text_fits(query) && dict_fits(params) && dict_fits(extra),
+            Request::Begin { extra } => dict_fits(extra),
             Request::Commit => true,
             Request::Rollback => true,
-            Request::Discard { extra } => fits_dict(extra),
-            Request::Pull { extra } => fits_dict(extra),
+            Request::Discard { extra } => dict_fits(extra),
+            Request::Pull { extra } => dict_fits(extra),
             Request::Route {
                 routing,
                 bookmarks,
                 extra,
-            } => fits_dict(routing) && fits_values(bookmarks) && fits_dict(extra),
+            } => dict_fits(routing) && values_fit(bookmarks) && dict_fits(extra),
         }
     }
 }
@@ -40,10 +40,10 @@ impl Response {
         ensures { result ≡ fits_response self.now }
     {
         match self {
-            Response::Success { meta } => fits_dict(meta),
-            Response::Row { fields } => fits_values(fields),
+            Response::Success { meta } => dict_fits(meta),
+            Response::Row { fields } => values_fit(fields),
             Response::Ignored => true,
-            Response::Failure { meta } => fits_dict(meta),
+            Response::Failure { meta } => dict_fits(meta),
         }
     }
 }

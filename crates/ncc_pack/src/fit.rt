@@ -3,7 +3,6 @@
 ghost use Rattle.std.specs.Prelude.{◌≡◌, ◌&&◌, [], map, length, nat_le, IfOk};
 ghost use Rattle.std.specs.List.{list_all, list_any};
 ghost use Rattle.std.specs.Str.{bytes_eq};
-ghost use Rattle.ncc_pack.specs.declared.value.Value.{Value};
 ghost use Rattle.ncc_pack.specs.Keys.{distinct, keys};
 ghost use Rattle.ncc_pack.specs.Fits.{fit, fit_pair, fits, fits_i64, fits_text, fits_list, fits_dict, fits_labels, fits_node, fits_within};
 
@@ -181,27 +180,6 @@ fn value_fits(value: &Value, depth: u8) -> bool
         Value::Dict(pairs) => dict_fits(pairs, depth),
         Value::Node(node) => node_fits(node, depth),
     }
-}
-
-/// Says whether a text has a spelling, as `Value::fits` says it of the value that is this text.
-pub fn fits_text(text: &Text) -> bool
-    ensures { result ≡ fits (Value.Text text.now) }
-{
-    text_fits(text)
-}
-
-/// Says whether a list has a spelling, as `Value::fits` says it of the value that is this list.
-pub fn fits_values(values: &Values) -> bool
-    ensures { result ≡ fits (Value.List values.now) }
-{
-    list_fits(values, MAX_DEPTH)
-}
-
-/// Says whether a dictionary has a spelling, as `Value::fits` says it of the value that is this dictionary.
-pub fn fits_dict(pairs: &Dict) -> bool
-    ensures { result ≡ fits (Value.Dict pairs.now) }
-{
-    dict_fits(pairs, MAX_DEPTH)
 }
 
 impl Value {

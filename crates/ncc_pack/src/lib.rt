@@ -23,7 +23,6 @@ pub use alone::{
 };
 pub use bytes::Bytes;
 pub use error::PackError;
-pub use fit::{fits_dict, fits_text, fits_values};
 pub use read::{decode, decode_at, one_form};
 pub use sequence::Sequence;
 pub use size::short_len;
@@ -31,4 +30,4 @@ pub use std::alloc::AllocError as Memory;
 pub use text::Text;
 pub use value::{Dict, NodeValue, Value, Values, copy_dict, copy_values};
 pub use words::Words;
-pub use write::{encode, encode_dict, encode_text, encode_values};
+pub use write::encode;

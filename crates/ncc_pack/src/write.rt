@@ -5,7 +5,6 @@ ghost use Rattle.ncc_pack.specs.Limits.{max_size};
 ghost use Rattle.ncc_pack.specs.Spells.{Kind, bytes_mark};
 ghost use Rattle.ncc_pack.specs.Short.{head, wide_head, integer, text, bytes, list, dict, short, short_node, short_pair};
 ghost use Rattle.ncc_pack.specs.Fits.{fits};
-ghost use Rattle.ncc_pack.specs.declared.value.Value.{Value};
 ghost use Rattle.ncc_pack.specs.Writing.{Begins, SomeValue, SomeList, SomeDict, SomeNode};
 
 use crate::bytes::Bytes;
@@ -161,57 +160,6 @@ pub fn encode(value: &Value, into: &mut Bytes) -> Result<(), AllocError>
 {
     let before = into.len();
     match put_value(value, into) {
-        Ok(()) => Ok(()),
-        Err(error) => {
-            into.truncate(before);
-            Err(error)
-        }
-    }
-}
-
-/// Appends the shortest spelling of a text, as `encode` does that of a value. An `Err` leaves the bytes as they were.
-#[tactic(auto, using(crate::proofs::Loops::text_fits, crate::proofs::Loops::short_text))]
-pub fn encode_text(written: &Text, into: &mut Bytes) -> Result<(), AllocError>
-    requires { IsTrue (fits (Value.Text written.now)) }
-    ensures ok { OnOk result (into.new ≡ into.old ++ short (Value.Text written.now)) }
-    ensures err { OnErr result (into.new ≡ into.old) }
-{
-    let before = into.len();
-    match put_text(written, into) {
-        Ok(()) => Ok(()),
-        Err(error) => {
-            into.truncate(before);
-            Err(error)
-        }
-    }
-}
-
-/// Appends the shortest spelling of a list, as `encode` does that of a value. An `Err` leaves the bytes as they were.
-#[tactic(auto, using(crate::proofs::Loops::list_fits, crate::proofs::Loops::short_list))]
-pub fn encode_values(values: &Values, into: &mut Bytes) -> Result<(), AllocError>
-    requires { IsTrue (fits (Value.List values.now)) }
-    ensures ok { OnOk result (into.new ≡ into.old ++ short (Value.List values.now)) }
-    ensures err { OnErr result (into.new ≡ into.old) }
-{
-    let before = into.len();
-    match put_values(values, into) {
-        Ok(()) => Ok(()),
-        Err(error) => {
-            into.truncate(before);
-            Err(error)
-        }
-    }
-}
-
-/// Appends the shortest spelling of a dictionary, as `encode` does that of a value. An `Err` leaves the bytes as they were.
-#[tactic(auto, using(crate::proofs::Loops::dict_fits, crate::proofs::Loops::short_dict))]
-pub fn encode_dict(pairs: &Dict, into: &mut Bytes) -> Result<(), AllocError>
-    requires { IsTrue (fits (Value.Dict pairs.now)) }
-    ensures ok { OnOk result (into.new ≡ into.old ++ short (Value.Dict pairs.now)) }
-    ensures err { OnErr result (into.new ≡ into.old) }
-{
-    let before = into.len();
-    match put_dict(pairs, into) {
         Ok(()) => Ok(()),
         Err(error) => {
             into.truncate(before);
