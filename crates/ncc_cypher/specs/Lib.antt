@@ -1,0 +1,15 @@
+pub mod Class
+pub mod Lexeme
+pub mod Number
+pub mod Token
+pub mod Scan
+pub mod Body
+pub mod Stops
+pub mod Grammar
+pub mod Machine
+pub mod Columns
+pub mod Spelled
+pub mod Marks
+pub mod Outcome
+pub mod Writing
+pub mod Print

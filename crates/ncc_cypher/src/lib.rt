@@ -1,0 +1,32 @@
+//! Statements of the served part of Cypher: reading them from a source, and printing them.
+#![tactic(auto)]
+
+mod change;
+mod class;
+mod count;
+mod draft;
+mod error;
+mod head;
+mod lex;
+mod marks;
+mod number;
+mod printing;
+mod reading;
+mod slice;
+mod state;
+mod step;
+mod sum;
+#[cfg(test)]
+mod tests;
+mod text;
+mod token;
+mod tree;
+mod word;
+mod writes;
+
+pub use error::{ParseError, SyntaxKind};
+pub use printing::print;
+pub use reading::parse;
+pub use tree::{
+    Change, Columns, Expr, Head, Item, Items, Pair, Pairs, Statement, Tail, Term, Terms,
+};
