@@ -1,5 +1,5 @@
 -- What reading token by token answers is what the source spells.
-use Rattle.std.proofs.Common.{◌≡◌, ℕ, ◌+◌, ◌-◌, ◌<◌, ◌≤◌, Bool, true, false, List, [], ◌∷◌, ◌++◌, suc, length, take, drop, Option, Some, None, Result, Ok, Err, refl, sym, ap, subst, ◌∙◌, append_assoc, arith}
+use Rattle.std.proofs.Common.{◌≡◌, ℕ, ◌+◌, ◌-◌, ◌<◌, Bool, true, false, List, [], ◌∷◌, ◌++◌, suc, length, take, Option, Some, None, Result, Ok, Err, refl, sym, ap, subst, ◌∙◌, append_assoc, arith}
 use Rattle.std.specs.List.{prefix_len}
 use Rattle.std.specs.Prelude.{IfOk, ◌==◌}
 use Rattle.std.proofs.lemmas.List.{append-nil, length-append, take-append-drop}
@@ -21,12 +21,12 @@ use Rattle.ncc_cypher.specs.Grammar.{Name, Spells}
 use Rattle.ncc_cypher.specs.Columns.{columns, between}
 use Rattle.ncc_cypher.specs.Machine.{step, accepts, then_run, run}
 use Rattle.ncc_cypher.specs.Marks.{no_marks, mark_more, finish}
-use Rattle.ncc_cypher.specs.Spelled.{Spelled, Continued, StopsHere, Stopped, IsOrMemory}
+use Rattle.ncc_cypher.specs.Spelled.{Spelled, Continued, Stopped, IsOrMemory}
 use Rattle.ncc_cypher.specs.Outcome.{with_columns, ended, Outcome}
-use Rattle.ncc_cypher.proofs.Sources.{begins_is, token_begins, none_begins, tokens_more, goes_further, Left, all_tokens, has_source, Source}
+use Rattle.ncc_cypher.proofs.Sources.{token_begins, none_begins, tokens_more, goes_further, Left, all_tokens, has_source}
 use Rattle.ncc_cypher.proofs.Marked.{Marked, marked_none, marked_more, finished}
 use Rattle.ncc_cypher.proofs.Sound.{sound}
-use Rattle.ncc_cypher.proofs.Complete.{Read, complete, bare, run_on}
+use Rattle.ncc_cypher.proofs.Complete.{complete, bare, run_on}
 use Rattle.ncc_cypher.proofs.Continue.{completed}
 
 -- ---- places

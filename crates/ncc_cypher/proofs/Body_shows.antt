@@ -1,5 +1,5 @@
 -- Behind the head: one token more shows one token more.
-use Rattle.std.proofs.Common.{◌≡◌, ℕ, Bool, true, false, not, ◌&&◌, List, [], ◌∷◌, ◌++◌, Option, Some, None, refl, sym, ap, subst, ◌∙◌, append_assoc}
+use Rattle.std.proofs.Common.{◌≡◌, Bool, true, false, ◌&&◌, List, [], ◌∷◌, ◌++◌, Option, Some, None, refl, sym, ap, ◌∙◌, append_assoc}
 use Rattle.std.specs.Prelude.{is_some}
 use Rattle.std.proofs.lemmas.List.{append-nil}
 use Rattle.ncc_cypher.specs.declared.token.Token.{Token}
@@ -11,21 +11,17 @@ use Rattle.ncc_cypher.specs.declared.tree.Item.{Item}
 use Rattle.ncc_cypher.specs.declared.tree.Item.TheVariants as i
 use Rattle.ncc_cypher.specs.declared.tree.Head.{Head}
 use Rattle.ncc_cypher.specs.declared.tree.Head.TheVariants as h
-use Rattle.ncc_cypher.specs.declared.tree.Change.{Change}
 use Rattle.ncc_cypher.specs.declared.tree.Change.TheVariants as c
-use Rattle.ncc_cypher.specs.declared.tree.Tail.TheVariants as l
-use Rattle.ncc_cypher.specs.declared.tree.Statement.{Statement}
-use Rattle.ncc_cypher.specs.declared.state.Node.{Node}
 use Rattle.ncc_cypher.specs.declared.state.Made.{Made}
 use Rattle.ncc_cypher.specs.declared.state.Body.{Body}
 use Rattle.ncc_cypher.specs.declared.state.Place.{Place}
 use Rattle.ncc_cypher.specs.declared.state.Place.TheVariants as p
 use Rattle.ncc_cypher.specs.declared.state.State.{State}
 use Rattle.ncc_cypher.specs.declared.state.State.TheVariants as s
-use Rattle.ncc_cypher.specs.Grammar.{Name, Choice, Named, given, term, parted, sum, pair, change, alias, item, named, head, changes, tokens, NotEmpty, Every, IsBound, IsTerm, IsSum, IsItem, IsPair, has, ArePairs, IsHead, IsChange, IsTail, is_count, items_of, Goes, count, items, nothing}
-use Rattle.ncc_cypher.specs.Machine.{when, is_bound, scope, a_pair, a_sum, a_made, a_body, a_statement, is_find, at_closed, at_setting, at_set_owned, at_set_dotted, at_set_keyed, behind_change, at_deleting, at_deleted, at_delete_return, at_needs, at_param, at_dotted, behind_item, behind_name, at_owned, behind_sum, at_after, first_name, at_returning, at_counting, at_either, at_count_opened, at_count_owned, at_counted, at_count_aliasing, at_aliasing, at_aliased}
-use Rattle.ncc_cypher.proofs.Lists.{each_then, each_then_more, parted_last, parted_then, not_empty, Every_more, items_more, same_name, itself}
-use Rattle.ncc_cypher.proofs.Shown.{made_tokens, body_tokens, so_far, terms_then, shown, NotAlone, IsFind, FineMade, FineBody, FineSet, FinePlace, FineTerms, FineDelete, FineCount, Right, Fine, Shows}
+use Rattle.ncc_cypher.specs.Grammar.{Name, Choice, Named, given, term, sum, change, item, named, NotEmpty, IsBound, IsTerm, IsItem, IsPair, is_count, items_of, Goes, count, items, nothing}
+use Rattle.ncc_cypher.specs.Machine.{is_bound, scope, a_pair, a_sum, a_body, is_find, at_closed, at_setting, at_set_owned, at_set_dotted, at_set_keyed, behind_change, at_deleting, at_deleted, at_delete_return, at_needs, at_param, at_dotted, behind_item, behind_name, at_owned, behind_sum, at_after, first_name, at_returning, at_counting, at_either, at_count_opened, at_count_owned, at_counted, at_count_aliasing, at_aliasing, at_aliased}
+use Rattle.ncc_cypher.proofs.Lists.{each_then, each_then_more, parted_last, parted_then, not_empty, Every_more, items_more, same_name}
+use Rattle.ncc_cypher.proofs.Shown.{made_tokens, body_tokens, so_far, terms_then, shown, NotAlone, IsFind, FineSet, FinePlace, FineTerms, Fine, Shows}
 use Rattle.ncc_cypher.proofs.Head_shows.{never, goes_to, let_on, no_items, pair_shows}
 
 -- ---- names and kinds

@@ -1,11 +1,9 @@
 -- What is spelled is accepted.
-use Rattle.std.proofs.Common.{◌≡◌, ℕ, Bool, true, false, not, ◌&&◌, List, [], ◌∷◌, ◌++◌, Option, Some, None, refl, sym, ap, subst, ◌∙◌, append_assoc}
-use Rattle.std.specs.Str.{bytes_eq}
+use Rattle.std.proofs.Common.{◌≡◌, Bool, true, false, List, [], ◌∷◌, ◌++◌, Option, Some, None, refl, sym, ap, subst, ◌∙◌, append_assoc}
 use Rattle.std.specs.Prelude.{is_some}
 use Rattle.std.proofs.lemmas.List.{append-nil}
 use Rattle.ncc_cypher.specs.declared.token.Token.{Token}
 use Rattle.ncc_cypher.specs.declared.token.Token.TheVariants as t
-use Rattle.ncc_cypher.specs.declared.tree.Expr.{Expr}
 use Rattle.ncc_cypher.specs.declared.tree.Term.{Term}
 use Rattle.ncc_cypher.specs.declared.tree.Term.TheVariants as m
 use Rattle.ncc_cypher.specs.declared.tree.Pair.{Pair}
@@ -29,10 +27,10 @@ use Rattle.ncc_cypher.specs.declared.state.Place.{Place}
 use Rattle.ncc_cypher.specs.declared.state.Place.TheVariants as p
 use Rattle.ncc_cypher.specs.declared.state.State.{State}
 use Rattle.ncc_cypher.specs.declared.state.State.TheVariants as s
-use Rattle.ncc_cypher.specs.Grammar.{Name, Choice, Named, given, term, further, parted, sum, pair, change, alias, item, named, node, head, pattern, props, changes, tail, tokens, semicolon, NotEmpty, Every, IsBound, IsTerm, IsSum, IsItem, IsPair, has, AllNew, ArePairs, IsHead, IsChange, IsTail, is_count, items_of, Goes, Kind, count, items, nothing, kind, Spells}
-use Rattle.ncc_cypher.specs.Machine.{when, is_bound, scope, a_pair, a_sum, a_node, a_made, a_body, a_statement, alone, is_find, then_state, first_name, behind_item, opening, go, step, ends, accepts, then_run, run}
+use Rattle.ncc_cypher.specs.Grammar.{Name, Choice, Named, given, term, further, parted, sum, pair, change, alias, item, named, node, head, props, changes, tail, semicolon, NotEmpty, Every, IsBound, IsTerm, IsSum, IsItem, IsPair, has, AllNew, ArePairs, IsHead, IsChange, IsTail, is_count, items_of, Goes, Kind, items, nothing, kind, Spells}
+use Rattle.ncc_cypher.specs.Machine.{when, is_bound, scope, a_node, a_made, a_body, a_statement, alone, is_find, then_state, first_name, opening, go, step, ends, accepts, then_run, run}
 use Rattle.ncc_cypher.proofs.Lists.{itself}
-use Rattle.ncc_cypher.proofs.Shown.{NotAlone, IsFind, opened, verb}
+use Rattle.ncc_cypher.proofs.Shown.{NotAlone, verb}
 
 -- a run goes on from where it is
 goes_on : (ts us : List Token) (o : Option State) → ((x : State) → run x (ts ++ us) ≡ then_run (λ r. run r us) (run x ts)) → then_run (λ r. run r (ts ++ us)) o ≡ then_run (λ r. run r us) (then_run (λ r. run r ts) o)

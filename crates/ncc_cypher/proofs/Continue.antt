@@ -1,6 +1,6 @@
 -- Each state that tokens lead to can be completed, by tokens that some bytes write.
-use Rattle.std.proofs.Common.{◌≡◌, ℕ, zero, suc, ◌+◌, ◌<◌, ◌≤◌, Bool, true, false, ◌&&◌, ◌||◌, eqb, List, [], ◌∷◌, ◌++◌, length, replicate, Option, Some, None, refl, sym, ap, subst, ◌∙◌, append_assoc, arith}
-use Rattle.std.specs.Str.{bytes_eq, str_eq_ignore_ascii_case}
+use Rattle.std.proofs.Common.{◌≡◌, ℕ, zero, suc, ◌+◌, ◌<◌, Bool, true, false, ◌&&◌, ◌||◌, eqb, List, [], ◌∷◌, ◌++◌, length, replicate, Option, Some, None, refl, sym, ap, subst, ◌∙◌, arith}
+use Rattle.std.specs.Str.{bytes_eq}
 use Rattle.std.specs.Prelude.{codes}
 use Rattle.std.proofs.Math.ListN.{length-replicate}
 use Rattle.ncc_cypher.specs.declared.token.Token.{Token}
@@ -14,7 +14,6 @@ use Rattle.ncc_cypher.specs.declared.tree.Change.{Change}
 use Rattle.ncc_cypher.specs.declared.tree.Change.TheVariants as c
 use Rattle.ncc_cypher.specs.declared.tree.Statement.{Statement}
 use Rattle.ncc_cypher.specs.declared.class.Class.TheVariants as q
-use Rattle.ncc_cypher.specs.declared.state.Verb.{Verb}
 use Rattle.ncc_cypher.specs.declared.state.Verb.TheVariants as v
 use Rattle.ncc_cypher.specs.declared.state.Node.{Node}
 use Rattle.ncc_cypher.specs.declared.state.Made.{Made}
@@ -26,10 +25,10 @@ use Rattle.ncc_cypher.specs.declared.state.State.TheVariants as s
 use Rattle.ncc_cypher.specs.Class.{class, is_word}
 use Rattle.ncc_cypher.specs.Lexeme as x
 use Rattle.ncc_cypher.specs.Lexeme.{Writes, Passes}
-use Rattle.ncc_cypher.specs.Token.{meaning, keyword, or_name, sign_of}
-use Rattle.ncc_cypher.specs.Grammar.{Name, Choice, Every, given, node, head, pattern, props, changes, has, IsBound, Goes, count, is_count, Spells}
-use Rattle.ncc_cypher.specs.Machine.{when, is_bound, a_body, then_run, run, go, step, ends, accepts}
-use Rattle.ncc_cypher.proofs.Lists.{itself, Every_front, Every_back}
+use Rattle.ncc_cypher.specs.Token.{keyword, or_name, sign_of}
+use Rattle.ncc_cypher.specs.Grammar.{Name, Choice, Every, given, node, head, pattern, props, changes, has, IsBound, Goes, count, Spells}
+use Rattle.ncc_cypher.specs.Machine.{when, is_bound, a_body, then_run, run, go, step, ends}
+use Rattle.ncc_cypher.proofs.Lists.{itself, Every_front}
 use Rattle.ncc_cypher.proofs.Shown.{shown, made_tokens, body_tokens, NotAlone, Fine}
 use Rattle.ncc_cypher.proofs.Sources.{IsToken}
 use Rattle.ncc_cypher.proofs.Complete.{Read, run_on}

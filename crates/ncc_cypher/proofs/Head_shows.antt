@@ -1,13 +1,11 @@
 -- The head: one token more shows one token more.
-use Rattle.std.proofs.Common.{◌≡◌, ℕ, Bool, true, false, not, ◌&&◌, List, [], ◌∷◌, ◌++◌, Option, Some, None, refl, sym, ap, subst, ◌∙◌, append_assoc}
-use Rattle.std.specs.Prelude.{is_some}
+use Rattle.std.proofs.Common.{◌≡◌, Bool, true, false, not, List, [], ◌∷◌, ◌++◌, Option, Some, None, refl, sym, ap, subst, ◌∙◌, append_assoc}
 use Rattle.std.proofs.lemmas.List.{append-nil}
 use Rattle.ncc_cypher.specs.declared.token.Token.{Token}
 use Rattle.ncc_cypher.specs.declared.token.Token.TheVariants as t
 use Rattle.ncc_cypher.specs.declared.tree.Pair.{Pair}
 use Rattle.ncc_cypher.specs.declared.tree.Head.{Head}
 use Rattle.ncc_cypher.specs.declared.tree.Head.TheVariants as h
-use Rattle.ncc_cypher.specs.declared.tree.Change.TheVariants as c
 use Rattle.ncc_cypher.specs.declared.state.Verb.{Verb}
 use Rattle.ncc_cypher.specs.declared.state.Verb.TheVariants as v
 use Rattle.ncc_cypher.specs.declared.state.Opening.{Opening}
@@ -17,10 +15,10 @@ use Rattle.ncc_cypher.specs.declared.state.Made.{Made}
 use Rattle.ncc_cypher.specs.declared.state.Place.TheVariants as p
 use Rattle.ncc_cypher.specs.declared.state.State.{State}
 use Rattle.ncc_cypher.specs.declared.state.State.TheVariants as s
-use Rattle.ncc_cypher.specs.Grammar.{Name, Choice, Named, given, pair, parted, node, head, pattern, props, IsPair, has, ArePairs}
-use Rattle.ncc_cypher.specs.Machine.{when, a_node, a_made, at_start, at_verb, find_only, unlabelled, at_opened, opening, at_coloned, bare, at_labelled, no_pair, at_braced, at_further, at_keyed, with_pair, more_pairs, behind_pair, at_closing, then_state, alone}
+use Rattle.ncc_cypher.specs.Grammar.{Name, Choice, given, pair, node, head, pattern, IsPair, has, ArePairs}
+use Rattle.ncc_cypher.specs.Machine.{when, a_node, a_made, at_start, at_verb, unlabelled, at_opened, opening, at_coloned, bare, at_labelled, no_pair, at_braced, at_further, at_keyed, with_pair, more_pairs, behind_pair, at_closing, then_state, alone}
 use Rattle.ncc_cypher.proofs.Lists.{each_then, each_then_more, parted_last, pairs_more}
-use Rattle.ncc_cypher.proofs.Shown.{verb, opened, node_tokens, made_tokens, shown, NotAlone, FineMade, FewPairs, FineNode, Fine, Shows}
+use Rattle.ncc_cypher.proofs.Shown.{verb, opened, node_tokens, shown, NotAlone, FineMade, FewPairs, FineNode, Fine, Shows}
 
 pub never : {P : Type 0} (r : State) → None ≡ Some r → P
 never r e = absurd cc

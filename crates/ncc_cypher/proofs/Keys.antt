@@ -1,5 +1,5 @@
 -- The set of keys goes along with the pairs.
-use Rattle.std.proofs.Common.{◌≡◌, ℕ, Bool, true, false, cond, ◌||◌, List, [], ◌∷◌, ◌++◌, refl, sym, ap, ◌∙◌}
+use Rattle.std.proofs.Common.{◌≡◌, Bool, true, false, cond, ◌||◌, List, [], ◌∷◌, ◌++◌, refl, sym, ap, ◌∙◌}
 use Rattle.std.specs.Str.{bytes_eq}
 use Rattle.ncc_cypher.specs.declared.tree.Pair.{Pair}
 use Rattle.ncc_cypher.specs.Grammar.{Name, has}

@@ -1,13 +1,12 @@
 -- Token lists with separators, and lists of which each element is right.
-use Rattle.std.proofs.Common.{◌≡◌, ℕ, Bool, true, false, ◌&&◌, eqb, List, [], ◌∷◌, ◌++◌, Option, Some, None, refl, sym, ap, ◌∙◌, append_assoc, eq-eqb}
-use Rattle.std.specs.Prelude.{map}
+use Rattle.std.proofs.Common.{◌≡◌, ℕ, Bool, true, false, ◌&&◌, eqb, List, [], ◌∷◌, ◌++◌, None, refl, ap, append_assoc, eq-eqb}
 use Rattle.std.specs.Str.{bytes_eq}
 use Rattle.std.proofs.lemmas.List.{append-nil}
 use Rattle.std.proofs.lemmas.Bool.{eqb-true}
 use Rattle.ncc_cypher.specs.declared.token.Token.{Token}
 use Rattle.ncc_cypher.specs.declared.tree.Pair.{Pair}
 use Rattle.ncc_cypher.specs.declared.tree.Item.{Item}
-use Rattle.ncc_cypher.specs.Grammar.{Name, Named, further, parted, NotEmpty, Every, IsPair, has, AllNew, ArePairs, items_of}
+use Rattle.ncc_cypher.specs.Grammar.{Named, further, parted, NotEmpty, Every, IsPair, has, AllNew, ArePairs, items_of}
 
 abbrev pub each_then : {A : Type 0} → (A → List Token) → Token → List A → List Token
 each_then f sep [] = []

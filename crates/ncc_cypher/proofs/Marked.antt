@@ -1,5 +1,5 @@
 -- The columns that are gathered token by token are those of the tokens.
-use Rattle.std.proofs.Common.{◌≡◌, ℕ, suc, ◌+◌, ◌-◌, ◌≤◌, Bool, true, false, List, [], ◌∷◌, ◌++◌, length, take, drop, Option, Some, None, refl, sym, ap, subst, ◌∙◌, append_assoc, arith}
+use Rattle.std.proofs.Common.{◌≡◌, ℕ, ◌-◌, Bool, true, false, List, [], ◌∷◌, ◌++◌, length, Option, Some, None, refl, sym, ap, subst, ◌∙◌, append_assoc, arith}
 use Rattle.std.specs.Prelude.{map}
 use Rattle.std.proofs.lemmas.List.{append-nil, length-append}
 use Rattle.std.proofs.Math.Seq.{take-append_seam}
@@ -10,8 +10,8 @@ use Rattle.ncc_cypher.specs.declared.marks.Mark.TheVariants as m
 use Rattle.ncc_cypher.specs.declared.marks.Marks.{Marks}
 use Rattle.ncc_cypher.specs.Token.{Placed}
 use Rattle.ncc_cypher.specs.Grammar.{Name}
-use Rattle.ncc_cypher.specs.Columns.{between, behind, source_of, name_of, name_if, alias_of, or_source, column, part_at, parts, at_return, columns}
-use Rattle.ncc_cypher.specs.Marks.{marks, no_marks, pushed, at_before, at_empty, at_within, at_naming, at_named, by_mark, mark_more, finish_by, finish}
+use Rattle.ncc_cypher.specs.Columns.{between, behind, source_of, name_of, name_if, alias_of, or_source, column, parts, columns}
+use Rattle.ncc_cypher.specs.Marks.{no_marks, at_before, at_empty, at_within, at_naming, at_named, by_mark, mark_more, finish_by, finish}
 
 -- ---- between two places
 

@@ -1,12 +1,12 @@
 -- Lists are printed with a separator before each but the first.
-use Rattle.std.proofs.Common.{◌≡◌, ℕ, suc, ◌+◌, ◌<◌, ◌-◌, Bool, true, false, List, [], ◌∷◌, ◌++◌, take, drop, length, get_or, Option, Some, None, refl, sym, ap, subst, ◌∙◌, append_assoc, arith}
+use Rattle.std.proofs.Common.{◌≡◌, ℕ, suc, ◌+◌, ◌<◌, ◌-◌, Bool, true, false, List, [], ◌∷◌, ◌++◌, take, drop, length, get_or, refl, sym, ap, ◌∙◌, append_assoc, arith}
 use Rattle.std.proofs.lemmas.List.{append-nil}
 use Rattle.std.proofs.lemmas.List.{take_more}
 use Rattle.std.specs.Prelude.{◌==◌, ◌||◌, not, cond}
 use Rattle.std.specs.List.{prefix_len}
 use Rattle.ncc_cypher.specs.Body.{is_plain}
 use Rattle.ncc_cypher.proofs.Runs.{stops}
-use Rattle.ncc_cypher.specs.Print.{further, parted, escaped}
+use Rattle.ncc_cypher.specs.Print.{further, escaped}
 
 pub further_more : {A : Type 0} (f : A → List ℕ) (sep : List ℕ) (xs : List A) (x : A) → further f sep (xs ++ (x ∷ [])) ≡ further f sep xs ++ (sep ++ f x)
 further_more f sep [] x = ap (λ (z : List ℕ). sep ++ z) (append-nil (f x))

@@ -20,7 +20,7 @@ use Rattle.ncc_cypher.specs.declared.tree.Statement.{Statement}
 use Rattle.ncc_cypher.specs.Class.{class, is_word}
 use Rattle.ncc_cypher.specs.Lexeme as x
 use Rattle.ncc_cypher.specs.Lexeme.{Passes}
-use Rattle.ncc_cypher.specs.Token.{meaning, keyword, or_name, sign_of, tokens_of}
+use Rattle.ncc_cypher.specs.Token.{keyword, or_name, sign_of}
 use Rattle.ncc_cypher.specs.Grammar as g
 use Rattle.ncc_cypher.specs.Grammar.{Name, Choice, Named, NotEmpty, Every, IsBound, IsTerm, IsSum, IsItem, IsPair, IsHead, IsChange, IsTail, IsBare, ArePairs, items_of, Spells, kind}
 use Rattle.ncc_cypher.specs.Print as p
@@ -29,7 +29,7 @@ use Rattle.ncc_cypher.specs.Columns.{columns}
 use Rattle.ncc_cypher.specs.Spelled.{Spelled, Again}
 use Rattle.ncc_cypher.proofs.Lists.{Every_front, Every_back}
 use Rattle.ncc_cypher.proofs.Sources.{IsToken, all_tokens}
-use Rattle.ncc_cypher.proofs.Glue.{Has, has_none, Clean, clean_none, Reads, Firm, Starts, token_reads, sign_firm, space_firm, firm_reads, firm_firm, firm_then, reads_then, reads_firm, nothing_firm, starts_space, starts_dot, starts_colon, starts_comma, starts_close, starts_right, starts_open, name_reads, text_reads, int_reads}
+use Rattle.ncc_cypher.proofs.Glue.{Has, has_none, clean_none, Reads, Firm, Starts, token_reads, sign_firm, space_firm, firm_reads, firm_firm, firm_then, reads_then, reads_firm, nothing_firm, starts_space, starts_dot, starts_colon, starts_comma, starts_close, starts_right, starts_open, name_reads, text_reads, int_reads}
 
 abbrev All : List Token → Type 0
 All ts = Every IsToken ts

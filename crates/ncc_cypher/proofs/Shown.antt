@@ -1,10 +1,9 @@
 -- What a state shows of the tokens read so far, and what is right in it.
-use Rattle.std.proofs.Common.{◌≡◌, ℕ, Bool, true, false, List, [], ◌∷◌, ◌++◌, Option, Some, None}
+use Rattle.std.proofs.Common.{◌≡◌, true, false, List, [], ◌∷◌, ◌++◌, Option, Some}
 use Rattle.ncc_cypher.specs.declared.token.Token.{Token}
 use Rattle.ncc_cypher.specs.declared.token.Token.TheVariants as t
 use Rattle.ncc_cypher.specs.declared.tree.Term.{Term}
 use Rattle.ncc_cypher.specs.declared.tree.Pair.{Pair}
-use Rattle.ncc_cypher.specs.declared.tree.Item.{Item}
 use Rattle.ncc_cypher.specs.declared.tree.Head.{Head}
 use Rattle.ncc_cypher.specs.declared.tree.Head.TheVariants as h
 use Rattle.ncc_cypher.specs.declared.tree.Change.TheVariants as d
@@ -20,8 +19,7 @@ use Rattle.ncc_cypher.specs.declared.state.Place.{Place}
 use Rattle.ncc_cypher.specs.declared.state.Place.TheVariants as p
 use Rattle.ncc_cypher.specs.declared.state.State.{State}
 use Rattle.ncc_cypher.specs.declared.state.State.TheVariants as s
-use Rattle.ncc_cypher.specs.Grammar as g
-use Rattle.ncc_cypher.specs.Grammar.{Name, Choice, Named, given, term, parted, sum, pair, change, alias, item, named, node, head, pattern, changes, tail, tokens, NotEmpty, Every, IsBound, IsTerm, IsSum, IsItem, IsPair, has, ArePairs, IsHead, IsChange, IsTail, is_count, items_of, Goes, Kind, kind, count, items, nothing}
+use Rattle.ncc_cypher.specs.Grammar.{Name, Choice, given, term, parted, sum, pair, change, alias, item, named, node, head, pattern, changes, tokens, NotEmpty, Every, IsBound, IsTerm, IsSum, IsItem, IsPair, has, ArePairs, IsHead, IsChange, IsTail, is_count, items_of, Goes, Kind, kind, count, items}
 use Rattle.ncc_cypher.specs.Machine.{scope, a_body}
 use Rattle.ncc_cypher.proofs.Lists.{each_then}
 

@@ -1,5 +1,5 @@
 -- What the machine accepts is spelled so.
-use Rattle.std.proofs.Common.{◌≡◌, ℕ, Bool, true, false, not, ◌&&◌, List, [], ◌∷◌, ◌++◌, Option, Some, None, refl, sym, ap, subst, ◌∙◌, append_assoc}
+use Rattle.std.proofs.Common.{◌≡◌, Bool, true, false, not, List, [], ◌∷◌, ◌++◌, Option, Some, None, refl, sym, ap, subst, ◌∙◌, append_assoc}
 use Rattle.std.proofs.lemmas.List.{append-nil}
 use Rattle.ncc_cypher.specs.declared.token.Token.{Token}
 use Rattle.ncc_cypher.specs.declared.token.Token.TheVariants as t
@@ -18,12 +18,12 @@ use Rattle.ncc_cypher.specs.declared.state.Place.{Place}
 use Rattle.ncc_cypher.specs.declared.state.Place.TheVariants as p
 use Rattle.ncc_cypher.specs.declared.state.State.{State}
 use Rattle.ncc_cypher.specs.declared.state.State.TheVariants as s
-use Rattle.ncc_cypher.specs.Grammar.{Name, Choice, Named, given, parted, change, item, named, head, changes, tail, tokens, semicolon, NotEmpty, Every, IsItem, IsPair, IsHead, items_of, Goes, nothing, Spells, kind}
-use Rattle.ncc_cypher.specs.Machine.{when, a_pair, a_sum, a_body, a_statement, is_find, then_state, go, step, ends, accepts, no_find, end_of_sum, end_of_name, then_run, run}
-use Rattle.ncc_cypher.proofs.Lists.{each_then, parted_last, not_empty, Every_more, items_more}
-use Rattle.ncc_cypher.proofs.Shown.{body_tokens, so_far, shown, NotAlone, IsFind, FineBody, FinePlace, FineCount, FineDelete, Right, Fine, Shows}
+use Rattle.ncc_cypher.specs.Grammar.{Name, Choice, change, item, named, head, changes, tail, tokens, IsItem, IsPair, Goes, nothing, Spells}
+use Rattle.ncc_cypher.specs.Machine.{when, a_pair, a_sum, a_body, a_statement, is_find, then_state, go, step, ends, accepts, end_of_sum, end_of_name, then_run, run}
+use Rattle.ncc_cypher.proofs.Lists.{parted_last, not_empty, Every_more, items_more}
+use Rattle.ncc_cypher.proofs.Shown.{so_far, shown, NotAlone, IsFind, FinePlace, Right, Fine, Shows}
 use Rattle.ncc_cypher.proofs.Head_shows.{start_shows, verb_shows, opened_shows, called_shows, coloned_shows, labelled_shows, braced_shows, further_shows, keyed_shows, closing_shows, never}
-use Rattle.ncc_cypher.proofs.Body_shows.{closed_shows, setting_shows, set_owned_shows, set_dotted_shows, set_keyed_shows, deleting_shows, deleted_shows, delete_return_shows, needs_shows, param_shows, dotted_shows, owned_shows, after_shows, returning_shows, either_shows, counting_shows, count_opened_shows, count_owned_shows, counted_shows, count_aliasing_shows, aliasing_shows, aliased_shows, item_named, some_named}
+use Rattle.ncc_cypher.proofs.Body_shows.{closed_shows, setting_shows, set_owned_shows, set_dotted_shows, set_keyed_shows, deleting_shows, deleted_shows, delete_return_shows, needs_shows, param_shows, dotted_shows, owned_shows, after_shows, returning_shows, either_shows, counting_shows, count_opened_shows, count_owned_shows, counted_shows, count_aliasing_shows, aliasing_shows, aliased_shows, item_named}
 
 go_shows : (k : Choice) (x : State) (y : Token) (r : State) → Fine k x → go x y ≡ Some r → Shows k x y r
 unfolding go

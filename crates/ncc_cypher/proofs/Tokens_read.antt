@@ -1,6 +1,6 @@
 -- What the code reads by the first byte's class is what stands there.
-use Rattle.std.proofs.Common.{◌≡◌, ℕ, ℤ, zero, suc, ◌+◌, ◌-◌, ◌<◌, ◌≤◌, Bool, true, false, cond, List, [], ◌∷◌, ◌++◌, length, get_or, take, drop, Option, Some, None, refl, sym, ap, ◌∙◌, arith, add-one}
-use Rattle.std.specs.Prelude.{◌==◌, ◌^◌, pos, negsuc, nat_lt}
+use Rattle.std.proofs.Common.{◌≡◌, ℕ, ℤ, zero, suc, ◌+◌, ◌-◌, ◌<◌, ◌≤◌, Bool, true, false, cond, List, [], ◌∷◌, ◌++◌, length, get_or, take, drop, Option, Some, None, refl, sym, ap, ◌∙◌, arith}
+use Rattle.std.specs.Prelude.{◌^◌, pos, negsuc, nat_lt}
 use Rattle.std.specs.List.{prefix_len}
 use Rattle.std.specs.Str.Parse.{AllDigits, digits_value}
 use Rattle.std.specs.Char.{digit_value}
@@ -12,11 +12,10 @@ use mir.Syntax.{w64}
 use mir.Val.{SFits}
 use Rattle.std.proofs.Math.IntN.{neg_ℤ}
 use Rattle.ncc_cypher.specs.declared.class.Class.{Class}
-use Rattle.ncc_cypher.specs.declared.class.Class.TheVariants.{Letter, Zero, Digit, Minus, Quote, Sign, Blank, Other}
+use Rattle.ncc_cypher.specs.declared.class.Class.TheVariants.{Letter, Zero, Digit, Minus, Quote, Sign}
 use Rattle.ncc_cypher.specs.declared.token.Token.{Token}
-use Rattle.ncc_cypher.specs.declared.token.Token.TheVariants as t
 use Rattle.ncc_cypher.specs.Class.{class, is_digit, is_word, is_digit_class, is_word_class, IsDigitClass}
-use Rattle.ncc_cypher.specs.Lexeme.{Lexeme, word, number, text, sign, Passes}
+use Rattle.ncc_cypher.specs.Lexeme.{word, Passes}
 use Rattle.ncc_cypher.specs.Number.{number_of}
 use Rattle.ncc_cypher.specs.Token.{keyword, or_name, sign_of, as_int}
 use Rattle.ncc_cypher.specs.Scan.{digits_at, digits_by, by_class, lexeme_at, token_at, token_of, body_at, as_number, as_text, with_rest}

@@ -1,5 +1,5 @@
 -- A text up to its quote, run by run.
-use Rattle.std.specs.Prelude.{◌≡◌, ℕ, Bool, true, false, not, List, [], ◌∷◌, ◌++◌, Option, Some, None, ◌==◌, ◌||◌}
+use Rattle.std.specs.Prelude.{◌≡◌, ℕ, Bool, not, List, ◌++◌, Option, Some, None, ◌==◌, ◌||◌}
 
 abbrev pub is_plain : ℕ → ℕ → Bool
 is_plain q b = not (b == q || b == 92)

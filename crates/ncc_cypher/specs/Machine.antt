@@ -1,9 +1,8 @@
 -- The machine that reads tokens from left to right. A state holds what was read so far.
-use Rattle.std.specs.Prelude.{◌≡◌, ℕ, Bool, true, false, not, ◌&&◌, List, [], ◌∷◌, ◌++◌, Option, Some, None, is_some}
+use Rattle.std.specs.Prelude.{Bool, true, false, not, ◌&&◌, List, [], ◌∷◌, ◌++◌, Option, Some, None, is_some}
 use Rattle.std.specs.Str.{bytes_eq}
 use Rattle.ncc_cypher.specs.declared.token.Token.{Token}
 use Rattle.ncc_cypher.specs.declared.token.Token.TheVariants as t
-use Rattle.ncc_cypher.specs.declared.tree.Expr.{Expr}
 use Rattle.ncc_cypher.specs.declared.tree.Term.{Term}
 use Rattle.ncc_cypher.specs.declared.tree.Term.TheVariants as m
 use Rattle.ncc_cypher.specs.declared.tree.Pair.{Pair}

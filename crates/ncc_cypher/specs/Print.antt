@@ -2,7 +2,7 @@
 -- between two tokens, but none on either side of `.`, `(`, `)`, `{`, `}` and the `:` of a node, none after `$`, and none
 -- before `,` and `:`. Yet one stands behind the `:` of a pair, behind a `)` that is not the last token, and before `(`
 -- and `{`, but not behind `count`. A text stands in `'`, with escapes for `\` and `'` alone.
-use Rattle.std.specs.Prelude.{ℕ, ℤ, Bool, true, false, List, [], ◌∷◌, ◌++◌, codes, Option, Some, None, ◌==◌, ◌||◌, if◌then◌else◌}
+use Rattle.std.specs.Prelude.{ℕ, true, false, List, [], ◌∷◌, ◌++◌, codes, Option, Some, None, ◌==◌, ◌||◌, if◌then◌else◌}
 use Rattle.std.specs.Fmt.{signed_decimal}
 use Rattle.ncc_cypher.specs.declared.tree.Expr.{Expr}
 use Rattle.ncc_cypher.specs.declared.tree.Term.{Term}

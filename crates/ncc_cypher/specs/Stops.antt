@@ -1,8 +1,7 @@
 -- What ends a run of plain bytes.
-use Rattle.std.specs.Prelude.{◌≡◌, ◌<◌, ℕ, Bool, true, false, List, [], ◌∷◌, ◌++◌, length, Option, Some, None}
-use Rattle.std.specs.Borrow.{Bor}
+use Rattle.std.specs.Prelude.{◌≡◌, ◌<◌, ℕ, false, List, [], length, Some, None}
 use Rattle.std.specs.Str.{IsUtf8}
-use Rattle.ncc_cypher.specs.Scan.{body_at, add}
+use Rattle.ncc_cypher.specs.Scan.{body_at}
 use Rattle.ncc_cypher.specs.declared.text.Stop.{Stop}
 use Rattle.ncc_cypher.specs.declared.text.Stop.TheVariants.{Quote, Escape, Bad}
 use Rattle.ncc_cypher.specs.Body.{with_front}

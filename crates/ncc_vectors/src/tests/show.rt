@@ -3,8 +3,9 @@
 use ncc_pack::{Dict, NodeValue, Value, Values};
 use std::test::Fail;
 
+/// Appends a list as text.
 #[cycle(showing)]
-fn list(values: &Values, into: &mut String) -> Result<(), Fail> {
+pub(crate) fn list(values: &Values, into: &mut String) -> Result<(), Fail> {
     into.push_str("[ ")?;
     for value in values.as_slice() {
         show(value, into)?;
@@ -14,8 +15,9 @@ fn list(values: &Values, into: &mut String) -> Result<(), Fail> {
     Ok(())
 }
 
+/// Appends a dictionary as text.
 #[cycle(showing)]
-fn dict(pairs: &Dict, into: &mut String) -> Result<(), Fail> {
+pub(crate) fn dict(pairs: &Dict, into: &mut String) -> Result<(), Fail> {
     into.push_str("{ ")?;
     for pair in pairs.as_slice() {
         write!(into, "\"{}\" ", pair.0.as_str())?;

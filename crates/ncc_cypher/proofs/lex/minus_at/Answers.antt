@@ -1,10 +1,10 @@
-use Rattle.std.proofs.Common.{◌≡◌, ◌<◌, ◌-◌, ◌++◌, ◌∷◌, ℕ, ℤ, List, Some, None, refl, sym, ap, ◌∙◌, arith, length, drop, take, get_or}
+use Rattle.std.proofs.Common.{◌≡◌, ◌<◌, ◌-◌, ◌∷◌, ℕ, ℤ, List, Some, None, ap, ◌∙◌, arith, length, drop, take, get_or}
 use Rattle.std.proofs.lemmas.Int.{to_z-of_z}
 use mir.Syntax.{w64}
 use Rattle.ncc_cypher.specs.declared.token.Token.TheVariants.{Int}
 use Rattle.ncc_cypher.specs.Number.{number_of}
 use Rattle.ncc_cypher.specs.Scan.{digits_at}
-use Rattle.std.specs.Prelude.{true, Option}
+use Rattle.std.specs.Prelude.{true}
 use Rattle.ncc_cypher.proofs.Tokens_read.{minus_gives, minus_lacks, number_fits, minus_is, minus_cut, one_more}
 use Rattle.ncc_cypher.proofs.lex.minus_at.Goals as goal
 

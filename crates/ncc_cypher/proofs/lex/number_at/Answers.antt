@@ -1,10 +1,9 @@
-use Rattle.std.proofs.Common.{◌≡◌, ◌<◌, ℤ, Some, None, refl, sym, ap, ◌∙◌, arith, length}
+use Rattle.std.proofs.Common.{◌<◌, ℤ, Some, None, ap, ◌∙◌, arith, length}
 use Rattle.std.proofs.lemmas.Int.{to_z-of_z}
 use mir.Syntax.{w64}
 use Rattle.ncc_cypher.specs.declared.token.Token.TheVariants.{Int}
-use Rattle.ncc_cypher.specs.Number.{number_of}
 use Rattle.std.specs.Prelude.{false}
-use Rattle.ncc_cypher.proofs.Tokens_read.{number_gives, number_lacks, number_fits}
+use Rattle.ncc_cypher.proofs.Tokens_read.{number_gives, number_fits}
 use Rattle.ncc_cypher.proofs.lex.number_at.Goals as goal
 
 pub returns-in-Some-clause-token : goal.returns-in-Some-clause-token

@@ -1,4 +1,4 @@
-use Rattle.std.proofs.Common.{◌≡◌, refl, sym, ap, ◌∙◌, Some, None, drop, List, ℕ, arith}
+use Rattle.std.proofs.Common.{◌≡◌, sym, ap, ◌∙◌, Some, None, drop, arith}
 use Rattle.ncc_cypher.specs.Scan.{body_at, read}
 use Rattle.std.specs.Prelude.{false}
 use Rattle.ncc_cypher.proofs.Tokens_read.{quote_gives, quote_is}

@@ -1,4 +1,4 @@
-use Rattle.std.proofs.Common.{◌≡◌, ◌<◌, refl, sym, ap, ◌∙◌, Some, None, drop, List, ℕ, arith, length, get_or}
+use Rattle.std.proofs.Common.{◌≡◌, refl, sym, ap, ◌∙◌, Some, None, List, ℕ, arith, get_or}
 use Rattle.ncc_cypher.specs.declared.class.Class.TheVariants.{Sign, Blank, Other}
 use Rattle.ncc_cypher.specs.Class.{class}
 use Rattle.ncc_cypher.specs.Token.{sign_of}

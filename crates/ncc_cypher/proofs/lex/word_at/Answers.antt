@@ -1,4 +1,3 @@
-use Rattle.std.proofs.Common.{refl}
 use Rattle.ncc_cypher.proofs.Tokens_read.{word_gives}
 use Rattle.ncc_cypher.proofs.lex.word_at.Goals as goal
 

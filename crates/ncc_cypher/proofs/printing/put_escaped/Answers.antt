@@ -1,5 +1,4 @@
-use Rattle.std.proofs.Common.{◌≡◌, ◌<◌, ◌≤◌, ◌-◌, ◌∷◌, [], ◌++◌, ℕ, List, false, length, get_or, take, drop, refl, sym, ap, subst, ◌∙◌, arith}
-use Rattle.std.specs.List.{prefix_len}
+use Rattle.std.proofs.Common.{◌≡◌, ◌<◌, ◌≤◌, ◌-◌, ◌∷◌, [], ◌++◌, ℕ, List, false, length, get_or, take, ap, ◌∙◌, arith}
 use Rattle.ncc_cypher.specs.Body.{is_plain}
 use Rattle.ncc_cypher.specs.Print.{escaped}
 use Rattle.ncc_cypher.proofs.Runs.{small_stop}

@@ -1,7 +1,7 @@
-use Rattle.std.proofs.Common.{◌≡◌, ◌<◌, ◌++◌, length, ap, ◌∙◌, arith}
+use Rattle.std.proofs.Common.{◌<◌, ◌++◌, length, ap, ◌∙◌, arith}
 use Rattle.std.specs.Prelude.{codes}
 use Rattle.ncc_cypher.specs.declared.tree.Pair.{Pair}
-use Rattle.ncc_cypher.specs.Print.{term, pair, change, item}
+use Rattle.ncc_cypher.specs.Print.{change}
 use Rattle.ncc_cypher.proofs.Printed.{list_step}
 use Rattle.ncc_cypher.proofs.printing.put_further_changes.Goals as goal
 

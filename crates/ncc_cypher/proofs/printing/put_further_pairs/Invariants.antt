@@ -1,6 +1,6 @@
 use Rattle.std.proofs.Common.{◌≡◌, ◌++◌, take}
 use Rattle.std.specs.Prelude.{codes}
-use Rattle.ncc_cypher.specs.Print.{further, term, pair, change, item}
+use Rattle.ncc_cypher.specs.Print.{further, pair}
 use Rattle.ncc_cypher.proofs.printing.put_further_pairs.Given as goal
 
 -- those so far are printed

@@ -1,7 +1,5 @@
-use Rattle.std.proofs.Common.{◌≡◌, ◌<◌, ◌≤◌, ◌-◌, ◌+◌, ◌++◌, ℕ, List, Option, Some, None, length, refl, sym, ap, subst, ◌∙◌, arith}
+use Rattle.std.proofs.Common.{◌≡◌, ◌-◌, ℕ, List, Some, None, length, sym, ap, subst, ◌∙◌, arith}
 use Rattle.std.specs.Prelude.{◌==◌}
-use Rattle.ncc_cypher.specs.declared.token.Token.{Token}
-use Rattle.ncc_cypher.specs.declared.state.State.{State}
 use Rattle.ncc_cypher.specs.declared.state.State.TheVariants as s
 use Rattle.ncc_cypher.specs.declared.marks.Marks.{Marks}
 use Rattle.ncc_cypher.specs.declared.error.SyntaxKind.TheVariants.{Unexpected}

@@ -1,4 +1,3 @@
-use Rattle.std.proofs.Common.{refl}
 use Rattle.ncc_cypher.proofs.Runs.{cut_before}
 use Rattle.ncc_cypher.proofs.slice.before.Goals as goal
 

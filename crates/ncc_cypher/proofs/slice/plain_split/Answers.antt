@@ -1,4 +1,3 @@
-use Rattle.std.proofs.Common.{refl}
 use Rattle.ncc_cypher.proofs.Runs.{cut_plain}
 use Rattle.ncc_cypher.proofs.slice.plain_split.Goals as goal
 

@@ -1,4 +1,4 @@
-use Rattle.std.proofs.Common.{◌≡◌, ◌<◌, ◌≤◌, ◌+◌, ◌∷◌, [], ℕ, List, false, length, get_or, drop, refl, sym, ap, ◌∙◌, arith}
+use Rattle.std.proofs.Common.{◌≡◌, ◌≤◌, ◌∷◌, [], ℕ, List, false, length, get_or, drop, sym, ap, ◌∙◌, arith}
 use Rattle.ncc_cypher.specs.Class.{escape, is_escape}
 use Rattle.std.proofs.lemmas.List.{length-drop}
 use Rattle.ncc_cypher.specs.Scan.{body_at}

@@ -1,8 +1,5 @@
-use Rattle.std.proofs.Common.{◌≡◌, ◌∷◌, [], ◌++◌, Option, Some, None, List, ℕ, false, length, take, drop, refl, sym, ap, ◌∙◌, arith}
-use Rattle.std.specs.List.{prefix_len}
-use Rattle.std.proofs.lemmas.List.{length-drop}
+use Rattle.std.proofs.Common.{[], Some, None, false, sym, ◌∙◌}
 use Rattle.ncc_cypher.specs.Scan.{body_at}
-use Rattle.ncc_cypher.specs.Body.{is_plain, with_front}
 use Rattle.ncc_cypher.proofs.Runs.{stops, so_far, quoted, with_more}
 use Rattle.ncc_cypher.proofs.text.text_of.Goals as goal
 

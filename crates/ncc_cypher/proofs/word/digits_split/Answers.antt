@@ -1,4 +1,3 @@
-use Rattle.std.proofs.Common.{refl}
 use Rattle.ncc_cypher.specs.Class.{is_digit}
 use Rattle.ncc_cypher.proofs.Small.{cut, digit_small}
 use Rattle.ncc_cypher.proofs.word.digits_split.Goals as goal

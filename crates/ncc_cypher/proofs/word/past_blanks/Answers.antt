@@ -1,4 +1,3 @@
-use Rattle.std.proofs.Common.{refl}
 use Rattle.ncc_cypher.specs.Token.{is_blank}
 use Rattle.ncc_cypher.proofs.Small.{cut, blank_small}
 use Rattle.ncc_cypher.proofs.word.past_blanks.Goals as goal

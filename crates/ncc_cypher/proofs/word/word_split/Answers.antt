@@ -1,4 +1,3 @@
-use Rattle.std.proofs.Common.{refl}
 use Rattle.ncc_cypher.specs.Class.{is_word}
 use Rattle.ncc_cypher.proofs.Small.{cut, word_small}
 use Rattle.ncc_cypher.proofs.word.word_split.Goals as goal

@@ -1,11 +1,16 @@
-//! Reads a value from standard input, and decodes it, encodes it or asks whether it fits so often. It prints nothing, so
-//! that what starts it can measure it. The words are `decode`, `encode` or `fits`, and how often. The status is 0 where each
-//! pass went through the whole input.
+//! Works on its standard input so often, and prints nothing, so that what starts it can measure it. The words are the work
+//! and how often. The status is 0 where each pass went through the whole input.
+//!
+//! - `decode`, `encode` and `fits`: the input is a value, which is decoded, encoded or asked whether it fits.
+//! - `messages` and `bytes`: the input is a stream of chunks, which is fed in pieces of 8,192 bytes or of one byte; each
+//!   message is read as a request as soon as it is whole.
 #![tactic(auto)]
 
-ghost use Rattle.std.specs.Prelude.{IsTrue};
+ghost use Rattle.std.specs.Prelude.{◌<◌, IsTrue};
 ghost use Rattle.ncc_pack.specs.Fits.{fits};
 
+use ncc_bolt::read_request;
+use ncc_chunk::{Dechunk, Dechunker};
 use ncc_pack::{Bytes, PackError, Value, decode, encode};
 use std::alloc::{AllocError, Global};
 use std::io::Read;
@@ -46,10 +51,58 @@ fn fits_often(value: &Value, len: u64, times: u32) -> u64 {
     sum
 }
 
+/// Reads each message that is whole as a request. Says whether each was one and the stream may go on.
+fn read_whole(alloc: Global, dechunker: &mut Dechunker) -> bool {
+    for _ in 0..u64::MAX {
+        match dechunker.next_message() {
+            Ok(message) => {
+                if read_request(alloc, message.as_slice()).is_err() {
+                    return false;
+                }
+            }
+            Err(error) => return error == Dechunk::Again,
+        }
+    }
+    false
+}
+
+/// Reads a stream that is fed in pieces of so many bytes. Says whether each message was a request, and the last one whole.
+fn read_stream(alloc: Global, stream: &[u8], piece: usize) -> Result<bool, AllocError>
+    requires { 0 < piece }
+{
+    let mut dechunker = Dechunker::new(alloc)?;
+    for part in stream.chunks(piece) {
+        dechunker.feed(part)?;
+        if !read_whole(alloc, &mut dechunker) {
+            return Ok(false);
+        }
+    }
+    Ok(dechunker.idle())
+}
+
+/// The bytes of the passes that read the whole stream.
+fn read_often(alloc: Global, stream: &[u8], piece: usize, times: u32) -> Result<u64, AllocError>
+    requires { 0 < piece }
+{
+    let mut sum = 0u64;
+    for _ in 0..times {
+        if read_stream(alloc, stream, piece)? {
+            sum = sum.saturating_add(stream.len() as u64);
+        }
+    }
+    Ok(sum)
+}
+
 /// The bytes that all passes went through.
 fn passes(alloc: Global, bytes: &[u8], work: &str, times: u32) -> Result<u64, PackError> {
     if work == "decode" {
         return decode_often(alloc, bytes, times);
+    }
+    if work == "messages" {
+        return Ok(read_often(alloc, bytes, 8192, times)?);
+    }
+    if work == "bytes" {
+        return Ok(read_often(alloc, bytes, 1, times)?);
     }
     let (value, len) = decode(alloc, bytes)?;
     if work == "encode" && value.fits() {
