@@ -2,12 +2,23 @@
 
 use crate::{ParseError, SyntaxKind, parse, print};
 use ncc_pack::Text;
+use std::alloc::Global;
 use std::test::Fail;
 
+/// What is printed of a source, and the names of its columns, each with a bar behind it.
+fn shown(alloc: Global, source: &str) -> Result<(Text, Text), Fail> {
+    let read = parse(alloc, source)?.copy()?;
+    let mut names = Text::new(alloc);
+    for name in read.columns.as_slice() {
+        names.push_str(name.as_str())?;
+        names.push_str("|")?;
+    }
+    Ok((print(alloc, &read)?, names))
+}
+
 #[test]
-fn statements(rt: HostRuntime) -> Result<(), Fail> {
+fn values_and_texts(rt: HostRuntime) -> Result<(), Fail> {
     let table = [
-        // values, in any case of the keywords
         ("return  1+ $x ;", "RETURN 1 + $x", "1+ $x|"),
         ("RETURN null", "RETURN NULL", "null|"),
         ("Return True, fAlse", "RETURN TRUE, FALSE", "True|fAlse|"),
@@ -28,7 +39,6 @@ fn statements(rt: HostRuntime) -> Result<(), Fail> {
         ("\tRETURN\r\n1\n", "RETURN 1", "1|"),
         ("RETURN''", "RETURN ''", "''|"),
         ("RETURN 1as a", "RETURN 1", "a|"),
-        // texts
         ("RETURN 'a\"b'", "RETURN 'a\"b'", "'a\"b'|"),
         ("RETURN \"it's\"", "RETURN 'it\\'s'", "\"it's\"|"),
         (
@@ -38,7 +48,20 @@ fn statements(rt: HostRuntime) -> Result<(), Fail> {
         ),
         ("RETURN 'é€' + \"𝄞\"", "RETURN 'é€' + '𝄞'", "'é€' + \"𝄞\"|"),
         ("RETURN 'a\nb'", "RETURN 'a\nb'", "'a\nb'|"),
-        // CREATE
+    ];
+    for (source, text, columns) in table {
+        let (printed, names) = shown(rt.alloc(), source)?;
+        assert_eq!(rt; printed.as_str(), text, "at {source}");
+        assert_eq!(rt; names.as_str(), columns, "at {source}");
+        let (again, _) = shown(rt.alloc(), text)?;
+        assert_eq!(rt; again.as_str(), text, "at {source}");
+    }
+    Ok(())
+}
+
+#[test]
+fn creates(rt: HostRuntime) -> Result<(), Fail> {
+    let table = [
         ("CREATE (:A)", "CREATE (:A)", ""),
         ("create(n:A{})", "CREATE (n:A)", ""),
         ("CREATE (n:A {}) RETURN n", "CREATE (n:A) RETURN n", "n|"),
@@ -63,7 +86,20 @@ fn statements(rt: HostRuntime) -> Result<(), Fail> {
             "CREATE (_x9:_L) RETURN _x9",
             "_x9|",
         ),
-        // MATCH
+    ];
+    for (source, text, columns) in table {
+        let (printed, names) = shown(rt.alloc(), source)?;
+        assert_eq!(rt; printed.as_str(), text, "at {source}");
+        assert_eq!(rt; names.as_str(), columns, "at {source}");
+        let (again, _) = shown(rt.alloc(), text)?;
+        assert_eq!(rt; again.as_str(), text, "at {source}");
+    }
+    Ok(())
+}
+
+#[test]
+fn matches(rt: HostRuntime) -> Result<(), Fail> {
+    let table = [
         ("MATCH () RETURN 1", "MATCH () RETURN 1", "1|"),
         ("MATCH ({k: 1}) RETURN 1", "MATCH ( {k: 1}) RETURN 1", "1|"),
         ("MATCH (n) RETURN n", "MATCH (n) RETURN n", "n|"),
@@ -73,6 +109,20 @@ fn statements(rt: HostRuntime) -> Result<(), Fail> {
             "MATCH (n:A {k: NULL}) RETURN n",
             "n|",
         ),
+    ];
+    for (source, text, columns) in table {
+        let (printed, names) = shown(rt.alloc(), source)?;
+        assert_eq!(rt; printed.as_str(), text, "at {source}");
+        assert_eq!(rt; names.as_str(), columns, "at {source}");
+        let (again, _) = shown(rt.alloc(), text)?;
+        assert_eq!(rt; again.as_str(), text, "at {source}");
+    }
+    Ok(())
+}
+
+#[test]
+fn more_matches(rt: HostRuntime) -> Result<(), Fail> {
+    let table = [
         (
             "MATCH (n {k: $v}) DELETE n",
             "MATCH (n {k: $v}) DELETE n",
@@ -99,7 +149,20 @@ fn statements(rt: HostRuntime) -> Result<(), Fail> {
             "MATCH (n) RETURN count(n)",
             "count(n)|",
         ),
-        // `count` as a name and as the function
+    ];
+    for (source, text, columns) in table {
+        let (printed, names) = shown(rt.alloc(), source)?;
+        assert_eq!(rt; printed.as_str(), text, "at {source}");
+        assert_eq!(rt; names.as_str(), columns, "at {source}");
+        let (again, _) = shown(rt.alloc(), text)?;
+        assert_eq!(rt; again.as_str(), text, "at {source}");
+    }
+    Ok(())
+}
+
+#[test]
+fn counts_and_merges(rt: HostRuntime) -> Result<(), Fail> {
+    let table = [
         (
             "MATCH (count) RETURN count",
             "MATCH (count) RETURN count",
@@ -125,7 +188,6 @@ fn statements(rt: HostRuntime) -> Result<(), Fail> {
             "MATCH (n) RETURN n.count, n.set1",
             "n.count|n.set1|",
         ),
-        // MERGE
         ("MERGE (n:A {k: null})", "MERGE (n:A {k: NULL})", ""),
         (
             "MERGE (p:Person {name: $name}) SET p.age = $age RETURN p",
@@ -135,20 +197,11 @@ fn statements(rt: HostRuntime) -> Result<(), Fail> {
         ("merge (:A{k:1});", "MERGE (:A {k: 1})", ""),
     ];
     for (source, text, columns) in table {
-        let read = parse(rt.alloc(), source)?;
-        assert_eq!(rt; print(rt.alloc(), &read)?.as_str(), text, "at {source}");
-        let mut names = Text::new(rt.alloc());
-        for name in read.columns.as_slice() {
-            names.push_str(name.as_str())?;
-            names.push_str("|")?;
-        }
+        let (printed, names) = shown(rt.alloc(), source)?;
+        assert_eq!(rt; printed.as_str(), text, "at {source}");
         assert_eq!(rt; names.as_str(), columns, "at {source}");
-        let again = parse(rt.alloc(), text)?;
-        assert_eq!(rt;
-            print(rt.alloc(), &again.copy()?)?.as_str(),
-            text,
-            "at {source}"
-        );
+        let (again, _) = shown(rt.alloc(), text)?;
+        assert_eq!(rt; again.as_str(), text, "at {source}");
     }
     Ok(())
 }
