@@ -49,6 +49,7 @@ pub enum Mark {
     Bad,
 }
 
+#[inline]
 #[tactic(auto, unfolding(crate::specs::Marker::marker))]
 pub(crate) fn mark_of(byte: u8) -> Mark
     ensures { result ≡ marker byte }

@@ -23,6 +23,9 @@ use std::collections::BTreeSet;
 
 const MAX_DEPTH: u8 = 32;
 
+/// How many elements a list gets room for before its first one is read: few, whatever its size says.
+const FEW: usize = 16;
+
 /// The labels of a node: a list of texts alone.
 #[tactic(auto, unfolding(crate::specs::Reading::labels_at))]
 fn labels_of(alloc: Global, total: usize, bytes: &[u8]) -> Result<(Values, &[u8]), PackError>
@@ -47,7 +50,7 @@ fn label_items(
 ) -> Result<(Values, &[u8]), PackError>
     ensures { Gives (λ x. (x.0, x.1.now)) result (items_at (label_at total) count bytes.now) }
 {
-    let mut labels = Sequence::new(alloc);
+    let mut labels = Sequence::with_capacity(alloc, count.min(FEW))?;
     let mut rest = bytes;
     for _ in 0..count {
         let (label, after) = label_of(alloc, total, rest)?;
@@ -67,7 +70,7 @@ fn items_of(
 ) -> Result<(Values, &[u8]), PackError>
     ensures { Gives (λ x. (x.0, x.1.now)) result (items_at (value_at total depth) count bytes.now) }
 {
-    let mut items = Sequence::new(alloc);
+    let mut items = Sequence::with_capacity(alloc, count.min(FEW))?;
     let mut rest = bytes;
     for _ in 0..count {
         let (item, after) = value_of(alloc, total, depth, rest)?;
@@ -88,7 +91,7 @@ fn pairs_of(
     ensures { Gives (λ x. (x.0, x.1.now)) result (pairs_at total (value_at total depth) [] count bytes.now) }
 {
     let mut seen: BTreeSet<&str> = BTreeSet::new(alloc);
-    let mut pairs = Sequence::new(alloc);
+    let mut pairs = Sequence::with_capacity(alloc, count.min(FEW))?;
     let mut rest = bytes;
     for _ in 0..count {
         let at = total.saturating_sub(rest.len()) as u64;

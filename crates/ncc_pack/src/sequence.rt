@@ -1,6 +1,6 @@
 //! Lists of any element.
 
-ghost use Rattle.std.specs.Prelude.{◌≡◌, ◌++◌, ◌∷◌, [], length, OnOk, OnErr, IsTrue, ◌↔◌};
+ghost use Rattle.std.specs.Prelude.{◌≡◌, ◌++◌, ◌∷◌, [], length, IfOk, OnOk, OnErr, IsTrue, ◌↔◌};
 
 use std::alloc::{AllocError, Global};
 use std::marker::Model;
@@ -30,6 +30,14 @@ impl<T> Sequence<T> {
         Sequence {
             inner: Vec::new(alloc),
         }
+    }
+
+    /// No elements, with room for so many.
+    pub fn with_capacity(alloc: Global, capacity: usize) -> Result<Sequence<T>, AllocError>
+        ensures { IfOk result (λ s. s ≡ []) }
+    {
+        let inner = Vec::with_capacity(alloc, capacity)?;
+        Ok(Sequence { inner })
     }
 
     /// The elements of a `Vec`. It takes no memory.

@@ -13,7 +13,7 @@ items_of-loop-preserved t c = rw c.in_ok-push.ensures.ok (goes_on (value_at c.ar
 
 pub items_of-returns-in_err-item : goal.items_of-returns-in_err-item
 items_of-returns-in_err-item t c =
-    let p = err_from_is_err_and c.from_residual.result c.from_residual.ensures.1 in
+    let p = err_from_is_err_and c.from_residual-in_err-item.result c.from_residual-in_err-item.ensures.1 in
     rw (p.1, p.2) (ends (value_at c.args.total c.args.depth) c.in_err-item.field-0.0 c.loop.items c.args.count c.loop.counter c.loop.rest.now _ c.loop-test.true c.in_err-item.ensures c.loop.invariant)
 
 pub items_of-returns : goal.items_of-returns
@@ -21,7 +21,7 @@ items_of-returns t c = is_done (value_at c.args.total c.args.depth) _ _ _ _ _ c.
 
 pub pairs_of-returns-in_err-key : goal.pairs_of-returns-in_err-key
 pairs_of-returns-in_err-key t c =
-    let p = err_from_is_err_and c.from_residual.result c.from_residual.ensures.1 in
+    let p = err_from_is_err_and c.from_residual-in_err-key.result c.from_residual-in_err-key.ensures.1 in
     rw (p.1, p.2) (key_fails c.args.total (value_at c.args.total c.args.depth) c.loop.pairs c.args.count c.loop.counter c.loop.rest.now _ c.loop-test.true c.loop.invariant.0 c.in_err-key.field-0.0 c.in_err-key.ensures)
 
 pub pairs_of-returns-then-not-branch : goal.pairs_of-returns-then-not-branch
