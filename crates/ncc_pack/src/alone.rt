@@ -1,9 +1,12 @@
 //! A text, a list and a dictionary by themselves, as messages and entries hold them, without a `Value` round them.
 
-ghost use Rattle.std.specs.Prelude.{◌≡◌, ◌++◌, ◌-◌, ◌^◌, min, length, OnOk, OnErr, IsTrue};
+ghost use Rattle.std.specs.Prelude.{◌≡◌, ◌≤◌, ◌++◌, ◌-◌, ◌^◌, ℕ, suc, List, min, length, OnOk, OnErr, IsTrue};
+ghost use Rattle.ncc_pack.specs.declared.value.Value.{Value};
 ghost use Rattle.ncc_pack.specs.declared.value.Value.TheVariants as value;
-ghost use Rattle.ncc_pack.specs.Short.{short};
-ghost use Rattle.ncc_pack.specs.Fits.{fits};
+ghost use Rattle.ncc_pack.specs.Limits.{max_size};
+ghost use Rattle.ncc_pack.specs.Spells.{lists, spells};
+ghost use Rattle.ncc_pack.specs.Short.{head, short};
+ghost use Rattle.ncc_pack.specs.Fits.{fits, fits_within};
 
 use crate::bytes::Bytes;
 use crate::text::Text;
@@ -33,6 +36,49 @@ pub fn dict_fits(pairs: &Dict) -> bool
     ensures { result ≡ fits (value.Dict pairs.now) }
 {
     fit::dict_fits(pairs, fit::MAX_DEPTH)
+}
+
+/// Says whether a list fits where so many levels are left for lists, dictionaries and nodes, of the 32 in all.
+#[tactic(auto, using(crate::proofs::Single::fits_of_list))]
+pub fn values_fit_within(values: &Values, levels: u8) -> bool
+    ensures { result ≡ fits_within (value.List values.now) levels }
+{
+    fit::list_fits(values, levels)
+}
+
+/// Says whether a dictionary fits where so many levels are left for lists, dictionaries and nodes, of the 32 in all.
+#[tactic(auto, using(crate::proofs::Single::fits_of_dict))]
+pub fn dict_fits_within(pairs: &Dict, levels: u8) -> bool
+    ensures { result ≡ fits_within (value.Dict pairs.now) levels }
+{
+    fit::dict_fits(pairs, levels)
+}
+
+/// What fits in some levels fits in one more.
+pub fn fits_deeper()
+    ensures { (x : Value) (levels : ℕ) → IsTrue (fits_within x levels) → IsTrue (fits_within x (suc levels)) }
+{}
+
+/// What is spelled fits. So a value that was read fits.
+pub fn spelled_fits()
+    ensures { (x : Value) (b : List ℕ) → spells x b → IsTrue (fits x) }
+{}
+
+/// The length in bytes of what stands before the items of a list of so many. It takes no memory.
+pub fn list_head_len(len: usize) -> u64
+    ensures { result ≡ length (head lists len) }
+{
+    size::head_len(len)
+}
+
+/// Appends what stands before the items of a list of so many: its marker and its size. An `Err` leaves the bytes as they
+/// were.
+pub fn encode_list_head(len: usize, into: &mut Bytes) -> Result<(), AllocError>
+    requires { len ≤ max_size }
+    ensures ok { OnOk result (into.new ≡ into.old ++ head lists len) }
+    ensures err { OnErr result (into.new ≡ into.old) }
+{
+    write::put_head(0x90, 0xD4, len, into)
 }
 
 /// The length in bytes of the shortest spelling of a text, as `short_len` tells that of a value.

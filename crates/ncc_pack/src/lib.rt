@@ -18,8 +18,9 @@ mod words;
 mod write;
 
 pub use alone::{
-    dict_fits, dict_len, encode_dict, encode_text, encode_values, text_fits, text_len, values_fit,
-    values_len,
+    dict_fits, dict_fits_within, dict_len, encode_dict, encode_list_head, encode_text,
+    encode_values, fits_deeper, list_head_len, spelled_fits, text_fits, text_len, values_fit,
+    values_fit_within, values_len,
 };
 pub use bytes::Bytes;
 pub use error::PackError;

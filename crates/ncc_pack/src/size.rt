@@ -43,7 +43,7 @@ fn wide_head_len(len: usize) -> u64
 }
 
 #[tactic(auto, unfolding(crate::specs::Short::head))]
-fn head_len(len: usize) -> u64
+pub(crate) fn head_len(len: usize) -> u64
     ensures is { (kind : Kind) → result ≡ length (head kind len) }
     ensures small { result ≤ 5 }
 {

@@ -54,7 +54,7 @@ fn put_wide_head(mark: u8, len: usize, into: &mut Bytes) -> Result<(), AllocErro
 }
 
 #[tactic(auto, unfolding(crate::specs::Short::head))]
-fn put_head(tiny: u8, wide: u8, len: usize, into: &mut Bytes) -> Result<(), AllocError>
+pub(crate) fn put_head(tiny: u8, wide: u8, len: usize, into: &mut Bytes) -> Result<(), AllocError>
     requires low { tiny < 240 }
     requires room { wide < 250 }
     requires small { len ≤ max_size }
