@@ -1,9 +1,11 @@
 -- What reading token by token answers is what the source spells.
-use Rattle.std.proofs.Common.{◌≡◌, ℕ, ◌+◌, ◌-◌, ◌<◌, Bool, true, false, List, [], ◌∷◌, ◌++◌, suc, length, take, Option, Some, None, Result, Ok, Err, refl, sym, ap, subst, ◌∙◌, append_assoc, arith}
+use Rattle.std.proofs.Common.{◌≡◌, ℕ, ◌+◌, ◌-◌, ◌<◌, Bool, true, false, List, [], ◌∷◌, ◌++◌, suc, length, take, map, Option, Some, None, Result, Ok, Err, refl, sym, ap, subst, ◌∙◌, append_assoc, arith}
 use Rattle.std.specs.List.{prefix_len}
 use Rattle.std.specs.Prelude.{IfOk, ◌==◌}
 use Rattle.std.proofs.lemmas.List.{append-nil, length-append, take-append-drop}
 use Rattle.std.proofs.lemmas.Bool.Decides.{nat_tests}
+use Rattle.ncc_pack.specs.declared.value.Value.{Value}
+use Rattle.ncc_pack.specs.declared.value.Value.TheVariants as v
 use Rattle.ncc_cypher.specs.Lexeme.{Lexeme, Writes, a_word, plus, minus, a_text, a_sign, IsNumber, zero, more}
 use Rattle.ncc_cypher.specs.declared.token.Token.{Token}
 use Rattle.ncc_cypher.specs.declared.tree.Statement.{Statement}
@@ -17,7 +19,7 @@ use Rattle.ncc_cypher.specs.declared.state.State.TheVariants as s
 use Rattle.ncc_cypher.specs.Token as k
 use Rattle.ncc_cypher.specs.Token.{Begins, Placed, Tokens, tokens_of, past_blanks, is_blank}
 use Rattle.ncc_cypher.specs.Scan.{token_at, lexeme_at}
-use Rattle.ncc_cypher.specs.Grammar.{Name, Spells}
+use Rattle.ncc_cypher.specs.Grammar.{Spells}
 use Rattle.ncc_cypher.specs.Columns.{columns, between}
 use Rattle.ncc_cypher.specs.Machine.{step, accepts, then_run, run}
 use Rattle.ncc_cypher.specs.Marks.{no_marks, mark_more, finish}
@@ -117,17 +119,17 @@ no_statement_is : (x : Statement) → None ≡ Some x → ⊥
 no_statement_is x e = cc
 
 -- a statement's columns don't count for its spelling
-any_columns : (y : Statement) (cs : List Name) (ts : List Token) → Spells y ts → Spells (record y { columns = cs }) ts
+any_columns : (y : Statement) (cs : List Value) (ts : List Token) → Spells y ts → Spells (record y { columns = cs }) ts
 any_columns y cs ts w = record { choice = w.choice; head = w.head; change = w.change; tail = w.tail; goes = w.goes; same = w.same }
 
-pub is_spelled : (source rest : List ℕ) (x : State) (marks : Marks) (y : Statement) → Reached source rest x marks → past_blanks rest ≡ [] → accepts x ≡ Some y → Spelled (record y { columns = finish marks }) source
+pub is_spelled : (source rest : List ℕ) (x : State) (marks : Marks) (y : Statement) → Reached source rest x marks → past_blanks rest ≡ [] → accepts x ≡ Some y → Spelled (record y { columns = map v.Text (finish marks) }) source
 is_spelled source rest x marks y r n a = record {
   placed = r.placed;
   end = rest;
   tokens = r.tokens;
   nothing = n;
-  spells = any_columns y (finish marks) (tokens_of r.placed) (sound (tokens_of r.placed) x y r.goes a);
-  columns = finished r.placed rest marks r.marked;
+  spells = any_columns y (map v.Text (finish marks)) (tokens_of r.placed) (sound (tokens_of r.placed) x y r.goes a);
+  columns = ap (map v.Text) (finished r.placed rest marks r.marked);
 }
 
 is_continued : (source rest : List ℕ) (placed : List Placed) (x : State) → Tokens source placed rest → run s.Start (tokens_of placed) ≡ Some x → Continued (tokens_of placed)
@@ -135,9 +137,9 @@ is_continued source rest placed x o e =
     let c = completed (tokens_of placed) x e (all_tokens source placed rest o) in
     let f = has_source (tokens_of placed ++ c.more) c.all in
     record {
-      statement = record c.statement { columns = columns f.placed };
+      statement = record c.statement { columns = map v.Text (columns f.placed) };
       source = f.bytes;
-      spelled = record { placed = f.placed; end = f.end; tokens = f.tokens; nothing = f.nothing; spells = any_columns c.statement (columns f.placed) (tokens_of f.placed) (subst (λ (z : List Token). Spells c.statement z) (sym f.same) c.spells); columns = refl };
+      spelled = record { placed = f.placed; end = f.end; tokens = f.tokens; nothing = f.nothing; spells = any_columns c.statement (map v.Text (columns f.placed)) (tokens_of f.placed) (subst (λ (z : List Token). Spells c.statement z) (sym f.same) c.spells); columns = refl };
       more = c.more;
       same = f.same;
     }
@@ -207,7 +209,7 @@ is_bad source rest x marks r e f = record {
 -- ---- one answer
 
 whole_is : (y z : Statement) → bare y ≡ bare z → y.columns ≡ z.columns → y ≡ z
-whole_is y z e f = ap (λ (q : Statement). record q { columns = y.columns }) e ∙ ap (λ (q : List Name). record z { columns = q }) f
+whole_is y z e f = ap (λ (q : Statement). record q { columns = y.columns }) e ∙ ap (λ (q : List Value). record z { columns = q }) f
 
 none_left : (bs : List ℕ) → bs ≡ [] → token_at bs ≡ None
 unfolding token_at lexeme_at
@@ -221,7 +223,7 @@ unique source y z p q =
     let d = complete (tokens_of q.placed) z q.spells in
     let i : c.end ≡ d.end = state_is c.end d.end (sym c.goes ∙ ap (λ (u : List Placed). run s.Start (tokens_of u)) (sym e.0) ∙ d.goes) in
     let b : bare y ≡ bare z = statement_is (bare y) (bare z) (sym c.is ∙ ap accepts i ∙ d.is) in
-    whole_is y z b (p.columns ∙ ap columns (sym e.0) ∙ sym q.columns)
+    whole_is y z b (p.columns ∙ ap (λ (u : List Placed). map v.Text (columns u)) (sym e.0) ∙ sym q.columns)
 
 -- ---- the answers
 

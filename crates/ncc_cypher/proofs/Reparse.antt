@@ -2,6 +2,7 @@
 use Rattle.std.proofs.Common.{◌≡◌, ℕ, Bool, true, false, List, [], ◌∷◌, ◌++◌, Option, Some, None, refl, sym, ap, subst, ◌∙◌, append_assoc, inl, inr}
 use Rattle.std.specs.Prelude.{codes, map, ◌⊎◌, Result, Ok, Err, IfOk}
 use Rattle.std.proofs.lemmas.List.{append-nil}
+use Rattle.ncc_pack.specs.declared.value.Value.TheVariants as v
 use Rattle.ncc_cypher.specs.declared.class.Class.TheVariants as q
 use Rattle.ncc_cypher.specs.declared.token.Token.{Token}
 use Rattle.ncc_cypher.specs.declared.token.Token.TheVariants as t
@@ -423,7 +424,7 @@ again s source sp =
     let x : Has (printed s ++ []) (ts ++ []) = w [] [] clean_none has_none in
     let y : Has (printed s) (ts ++ []) = subst (λ (z : List ℕ). Has z (ts ++ [])) (append-nil (printed s)) x in
     let same : ts ++ [] ≡ g.tokens (plain s) s = ap (λ (z : List Token). (g.head (plain_braces s.head) s.name s.head ++ (g.changes s.name s.change ++ z)) ++ []) (sym (tail_same s s.tail (plain s) refl refl refl)) in (
-      columns y.placed,
+      map v.Text (columns y.placed),
       record {
         placed = y.placed;
         end = y.end;

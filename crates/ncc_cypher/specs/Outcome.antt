@@ -1,5 +1,6 @@
 -- What reading answers.
-use Rattle.std.specs.Prelude.{ℕ, List, Bool, true, false, Option, Some, None, Result, Ok, Err}
+use Rattle.std.specs.Prelude.{ℕ, List, map, Bool, true, false, Option, Some, None, Result, Ok, Err}
+use Rattle.ncc_pack.specs.declared.value.Value.TheVariants as v
 use Rattle.ncc_cypher.specs.declared.tree.Statement.{Statement}
 use Rattle.ncc_cypher.specs.declared.error.ParseError.{ParseError}
 use Rattle.ncc_cypher.specs.declared.error.ParseError.TheVariants.{Syntax, Memory}
@@ -13,7 +14,7 @@ use Rattle.ncc_cypher.specs.Spelled.{Spelled, Stopped}
 
 abbrev pub with_columns : ℕ → List Name → Option Statement → Result Statement ParseError
 with_columns at cs None = Err (Syntax at BadToken)
-with_columns at cs (Some y) = Ok (record y { columns = cs })
+with_columns at cs (Some y) = Ok (record y { columns = map v.Text cs })
 
 -- the answer where no token follows
 abbrev pub ended : State → Marks → Bool → ℕ → Result Statement ParseError

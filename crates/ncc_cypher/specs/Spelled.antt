@@ -1,5 +1,7 @@
 -- Which sources spell a statement, and where a source goes wrong.
-use Rattle.std.specs.Prelude.{◌≡◌, ℕ, ◌+◌, List, [], ◌∷◌, ◌++◌, length, Result, Ok, Err}
+use Rattle.std.specs.Prelude.{◌≡◌, ℕ, ◌+◌, List, [], ◌∷◌, ◌++◌, map, length, Result, Ok, Err}
+use Rattle.ncc_pack.specs.declared.value.Value.{Value}
+use Rattle.ncc_pack.specs.declared.value.Value.TheVariants as v
 use Rattle.ncc_cypher.specs.declared.error.ParseError.{ParseError}
 use Rattle.ncc_cypher.specs.declared.error.ParseError.TheVariants.{Memory}
 use Rattle.ncc_cypher.specs.declared.token.Token.{Token}
@@ -17,7 +19,7 @@ pub record Spelled (statement : Statement) (source : List ℕ) : Type 0 where
   pub tokens : Tokens source placed end
   pub nothing : past_blanks end ≡ []
   pub spells : Spells statement (tokens_of placed)
-  pub columns : statement.columns ≡ columns placed
+  pub columns : statement.columns ≡ map v.Text (columns placed)
 
 -- some spelled source begins with these tokens
 pub record Continued (ts : List Token) : Type 0 where
@@ -50,4 +52,4 @@ IsOrMemory (Ok s) r = r ≡ Ok s
 
 -- the source spells the statement, but for its columns
 abbrev pub Again : Statement → List ℕ → Type 0
-Again s source = (names : List (List ℕ)) × Spelled (record s { columns = names }) source
+Again s source = (names : List Value) × Spelled (record s { columns = names }) source

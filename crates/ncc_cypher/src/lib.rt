@@ -27,6 +27,4 @@ mod writes;
 pub use error::{ParseError, SyntaxKind};
 pub use printing::print;
 pub use reading::parse;
-pub use tree::{
-    Change, Columns, Expr, Head, Item, Items, Pair, Pairs, Statement, Tail, Term, Terms,
-};
+pub use tree::{Change, Expr, Head, Item, Items, Pair, Pairs, Statement, Tail, Term, Terms};

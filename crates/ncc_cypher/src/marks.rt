@@ -1,11 +1,11 @@
 //! The names of the columns, gathered token by token.
 
-ghost use Rattle.std.specs.Prelude.{◌≡◌, ◌++◌, ◌∷◌, [], IfOk};
+ghost use Rattle.std.specs.Prelude.{◌≡◌, ◌++◌, ◌∷◌, [], map, IfOk};
+ghost use Rattle.ncc_pack.specs.declared.value.Value.TheVariants as v;
 ghost use Rattle.ncc_cypher.specs.Marks.{no_marks, at_empty, at_within, at_naming, at_named, mark_more, finish};
 
 use crate::token::Token;
-use crate::tree::Columns;
-use ncc_pack::{Memory, Text};
+use ncc_pack::{Memory, Sequence, Text, Value, Values};
 use std::alloc::Global;
 
 /// Where the tokens so far end: before RETURN, before an item, in an item with its source so far, behind the AS of an
@@ -23,7 +23,7 @@ pub(crate) enum Mark {
 /// The columns of the items that are over, and what was read since.
 #[derive(Drop)]
 pub(crate) struct Marks {
-    pub(crate) done: Columns,
+    pub(crate) done: Sequence<Text>,
     pub(crate) mark: Mark,
 }
 
@@ -33,14 +33,14 @@ impl Marks {
         ensures { result ≡ no_marks }
     {
         Marks {
-            done: Columns::new(alloc),
+            done: Sequence::new(alloc),
             mark: Mark::Before,
         }
     }
 }
 
 /// One more column.
-fn pushed(done: Columns, column: Text, mark: Mark) -> Result<Marks, Memory>
+fn pushed(done: Sequence<Text>, column: Text, mark: Mark) -> Result<Marks, Memory>
     ensures { IfOk result (λ m. m ≡ record { done = done ++ column ∷ []; mark = mark }) }
 {
     let mut done = done;
@@ -49,7 +49,7 @@ fn pushed(done: Columns, column: Text, mark: Mark) -> Result<Marks, Memory>
 }
 
 /// A token before an item.
-fn at_empty(alloc: Global, done: Columns, token: &Token, own: &str) -> Result<Marks, Memory>
+fn at_empty(alloc: Global, done: Sequence<Text>, token: &Token, own: &str) -> Result<Marks, Memory>
     ensures { IfOk result (λ m. m ≡ at_empty done token.now own.now) }
 {
     match token {
@@ -76,7 +76,7 @@ fn extended(text: Text, more: &str) -> Result<Text, Memory>
 }
 
 /// A token in an item. `gap` is the source from the end of the token before to the end of this one.
-fn at_within(done: Columns, text: Text, token: &Token, gap: &str) -> Result<Marks, Memory>
+fn at_within(done: Sequence<Text>, text: Text, token: &Token, gap: &str) -> Result<Marks, Memory>
     ensures { IfOk result (λ m. m ≡ at_within done text token.now gap.now) }
 {
     match token {
@@ -94,7 +94,7 @@ fn at_within(done: Columns, text: Text, token: &Token, gap: &str) -> Result<Mark
 }
 
 /// A token behind AS.
-fn at_naming(done: Columns, text: Text, token: &Token, gap: &str) -> Result<Marks, Memory>
+fn at_naming(done: Sequence<Text>, text: Text, token: &Token, gap: &str) -> Result<Marks, Memory>
     ensures { IfOk result (λ m. m ≡ at_naming done text token.now gap.now) }
 {
     match token {
@@ -109,7 +109,7 @@ fn at_naming(done: Columns, text: Text, token: &Token, gap: &str) -> Result<Mark
 
 /// A token behind the name that AS gives.
 fn at_named(
-    done: Columns,
+    done: Sequence<Text>,
     text: Text,
     name: Text,
     token: &Token,
@@ -157,8 +157,8 @@ pub(crate) fn mark_more(
     }
 }
 
-/// The columns at the end of the tokens.
-pub(crate) fn finish(alloc: Global, marks: Marks) -> Result<Columns, Memory>
+/// The names of the columns at the end of the tokens.
+fn names_of(alloc: Global, marks: Marks) -> Result<Sequence<Text>, Memory>
     ensures { IfOk result (λ c. c ≡ finish marks) }
 {
     let Marks { done, mark } = marks;
@@ -183,4 +183,22 @@ pub(crate) fn finish(alloc: Global, marks: Marks) -> Result<Columns, Memory>
         }
         Mark::Ended => Ok(done),
     }
+}
+
+/// These names as texts among values.
+fn columns_of(names: Sequence<Text>) -> Result<Values, Memory>
+    ensures { IfOk result (λ c. c ≡ map v.Text names) }
+{
+    let mut columns = Sequence::with_capacity(names.allocator(), names.len())?;
+    for name in names.into_vec() {
+        columns.push(Value::Text(name))?;
+    }
+    Ok(columns)
+}
+
+/// The columns at the end of the tokens.
+pub(crate) fn finish(alloc: Global, marks: Marks) -> Result<Values, Memory>
+    ensures { IfOk result (λ c. c ≡ map v.Text (finish marks)) }
+{
+    columns_of(names_of(alloc, marks)?)
 }

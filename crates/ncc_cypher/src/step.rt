@@ -9,8 +9,8 @@ use crate::head::*;
 use crate::state::{Body, Made, Place, State};
 use crate::sum::*;
 use crate::token::Token;
-use crate::tree::{Change, Columns, Expr, Item, Items, Pair, Statement, Tail, Terms};
-use ncc_pack::Memory;
+use crate::tree::{Change, Expr, Item, Items, Pair, Statement, Tail, Terms};
+use ncc_pack::{Memory, Sequence};
 use std::alloc::Global;
 
 fn statement(alloc: Global, body: Body, tail: Tail) -> Statement
@@ -18,7 +18,7 @@ fn statement(alloc: Global, body: Body, tail: Tail) -> Statement
 {
     let Body { made, change } = body;
     let Made { head, name } = made;
-    let columns = Columns::new(alloc);
+    let columns = Sequence::new(alloc);
     Statement {
         head,
         name,

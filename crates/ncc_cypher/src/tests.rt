@@ -1,7 +1,7 @@
 //! Statements with their printed text and columns, and sources that are none with the place and kind of the refusal.
 
 use crate::{ParseError, SyntaxKind, parse, print};
-use ncc_pack::Text;
+use ncc_pack::{Text, Value};
 use std::alloc::Global;
 use std::test::Fail;
 
@@ -10,7 +10,10 @@ fn shown(alloc: Global, source: &str) -> Result<(Text, Text), Fail> {
     let read = parse(alloc, source)?.copy()?;
     let mut names = Text::new(alloc);
     for name in read.columns.as_slice() {
-        names.push_str(name.as_str())?;
+        match name {
+            Value::Text(name) => names.push_str(name.as_str())?,
+            _ => names.push_str("(no text)")?,
+        }
         names.push_str("|")?;
     }
     Ok((print(alloc, &read)?, names))

@@ -2,12 +2,9 @@
 
 ghost use Rattle.std.specs.Prelude.{◌≡◌, ◌++◌, ◌∷◌, [], length, IfOk, OnOk, OnErr, IsTrue, ◌↔◌, Option};
 
-use ncc_pack::{Memory, Text, Words};
+use ncc_pack::{Memory, Text, Values, copy_values};
 use std::alloc::Global;
 use std::marker::Model;
-
-/// The names of the columns, from left to right.
-pub type Columns = Words;
 
 /// A term of a sum.
 #[derive(Debug, Drop)]
@@ -411,7 +408,8 @@ pub struct Statement {
     pub name: Option<Text>,
     pub change: Change,
     pub tail: Tail,
-    pub columns: Columns,
+    /// The names of the columns, from left to right, each a text.
+    pub columns: Values,
 }
 
 impl Statement {
@@ -423,7 +421,7 @@ impl Statement {
         let name = copy_text(&self.name)?;
         let change = self.change.copy()?;
         let tail = self.tail.copy()?;
-        let columns = self.columns.copy()?;
+        let columns = copy_values(&self.columns)?;
         Ok(Statement {
             head,
             name,
