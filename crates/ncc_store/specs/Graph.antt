@@ -1,0 +1,48 @@
+-- A store as a plain list: the next id, and the nodes by ascending id.
+use Rattle.std.specs.Prelude.{ℤ, pos, ◌≤ℤ◌, ◌<ℤ◌, ◌^◌, not, if◌then◌else◌, List, [], ◌∷◌, map, Option, Some, None}
+use Rattle.std.specs.List.{All, filter}
+use Rattle.std.specs.List.Sorted.{IsStrictlySortedBy}
+use Rattle.std.specs.Ordering.{int_cmp, int_eq}
+use Rattle.ncc_store.specs.declared.node.StoredNode.{StoredNode}
+use Rattle.ncc_store.specs.Props.{IsKeyed}
+
+pub record Graph : Type 0 where
+  pub next : ℤ
+  pub nodes : List StoredNode
+
+-- a store with no node
+abbrev pub empty : ℤ → Graph
+empty next = record { next = next; nodes = [] }
+
+-- the node of an id
+unfoldable pub find : ℤ → List StoredNode → Option StoredNode
+find id [] = None
+find id (n ∷ ns) = if int_eq n.id id then Some n else find id ns
+
+-- with this node in the place of the one that has its id
+unfoldable pub replace : StoredNode → List StoredNode → List StoredNode
+replace m ns = map (λ n. if int_eq n.id m.id then m else n) ns
+
+-- with each of these nodes so, one after the other
+abbrev pub replaced : List StoredNode → List StoredNode → List StoredNode
+replaced [] ns = ns
+replaced (m ∷ ms) ns = replaced ms (replace m ns)
+
+-- without the node of this id
+unfoldable pub without : ℤ → List StoredNode → List StoredNode
+without id ns = filter (λ n. not (int_eq n.id id)) ns
+
+abbrev pub ids : List StoredNode → List ℤ
+ids ns = map (λ n. n.id) ns
+
+-- the greatest next id, which no node has
+abbrev pub last_id : ℤ
+last_id = pos (2 ^ 62)
+
+-- A store that steps can make: ids ascend and are below the next one, and each node has its keys in order.
+pub record IsGraph (g : Graph) : Type 0 where
+  pub low : pos 0 ≤ℤ g.next
+  pub high : g.next ≤ℤ last_id
+  pub ascending : IsStrictlySortedBy int_cmp (ids g.nodes)
+  pub below : All (λ n. (pos 0 ≤ℤ n.id) × (n.id <ℤ g.next)) g.nodes
+  pub keyed : All (λ n. IsKeyed n.props) g.nodes

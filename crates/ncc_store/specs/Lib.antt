@@ -1,0 +1,13 @@
+pub mod Graph
+pub mod Props
+pub mod Scalar
+pub mod Sum
+pub mod Rows
+pub mod Exec
+pub mod Delta
+pub mod Answers
+pub mod Layers
+pub mod Views
+pub mod Bound
+pub mod Pattern
+pub mod Steps
