@@ -1,0 +1,9 @@
+pub mod Agreeing
+pub mod Decided
+pub mod Meant
+pub mod Items
+pub mod Pairs
+pub mod Layers
+pub mod Shapes
+pub mod Steps
+pub mod Entries

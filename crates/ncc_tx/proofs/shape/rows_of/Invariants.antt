@@ -1,0 +1,9 @@
+use Rattle.std.proofs.Common.{◌≡◌, ◌++◌, map}
+use Rattle.ncc_pack.specs.declared.value.Value.TheVariants as v
+use Rattle.ncc_tx.proofs.shape.rows_of.Given as goal
+
+abbrev pub invariant-loop-item : goal.invariant-loop-item
+invariant-loop-item l =
+    (goal.iterator-loop-item).can_next l.item-iterator ×
+    (goal.iterator-loop-item).is_finite l.item-iterator ×
+    (l.fn.value ≡ v.List (map v.List l.rows ++ l.item-iterator.rest.items))

@@ -1,0 +1,9 @@
+use Rattle.std.proofs.Common.{◌≡◌, ◌++◌, length}
+use Rattle.ncc_tx.proofs.Steps.{step_value}
+use Rattle.ncc_pack.specs.Spells.{lists}
+use Rattle.ncc_pack.specs.Short.{head}
+use Rattle.ncc_tx.proofs.Items.{spelled_to}
+use Rattle.ncc_tx.proofs.write.put_steps.Given as goal
+
+abbrev pub invariant-loop-step : goal.invariant-loop-step
+invariant-loop-step l = l.into ≡ l.fn.into ++ (head lists (length l.steps) ++ spelled_to step_value l.step-index l.step-items)
