@@ -2,20 +2,26 @@
 //! and how often. The status is 0 where each pass went through the whole input.
 //!
 //! - `decode`, `encode` and `fits`: the input is a value, which is decoded, encoded or asked whether it fits.
+//! - `parse`: the input is a statement, which is parsed.
+//! - `steps`: the input makes a store, and has the steps that are run over it (`steps.rt`).
 //! - `messages` and `bytes`: the input is a stream of chunks, which is fed in pieces of 8,192 bytes or of one byte; each
 //!   message is read as a request as soon as it is whole.
 #![tactic(auto)]
+
+mod steps;
 
 ghost use Rattle.std.specs.Prelude.{◌<◌, IsTrue};
 ghost use Rattle.ncc_pack.specs.Fits.{fits};
 
 use ncc_bolt::read_request;
 use ncc_chunk::{Dechunk, Dechunker};
+use ncc_cypher::parse;
 use ncc_pack::{Bytes, PackError, Value, decode, encode};
 use std::alloc::{AllocError, Global};
 use std::io::Read;
 use std::process::ExitCode;
 use std::{env, io};
+use steps::run_often;
 
 /// The bytes read in so many passes.
 fn decode_often(alloc: Global, bytes: &[u8], times: u32) -> Result<u64, PackError> {
@@ -93,6 +99,28 @@ fn read_often(alloc: Global, stream: &[u8], piece: usize, times: u32) -> Result<
     Ok(sum)
 }
 
+/// The bytes of the passes that parsed the whole source.
+fn parse_often(alloc: Global, source: &str, times: u32) -> u64 {
+    let mut sum = 0u64;
+    for _ in 0..times {
+        if parse(alloc, source).is_ok() {
+            sum = sum.saturating_add(source.len() as u64);
+        }
+    }
+    sum
+}
+
+/// The bytes that all passes over a text went through.
+fn text_passes(alloc: Global, text: &str, work: &str, times: u32) -> u64 {
+    if work == "parse" {
+        return parse_often(alloc, text, times);
+    }
+    match run_often(alloc, text, times) {
+        Ok(sum) => sum.saturating_mul(text.len() as u64),
+        Err(_) => 0,
+    }
+}
+
 /// The bytes that all passes went through.
 fn passes(alloc: Global, bytes: &[u8], work: &str, times: u32) -> Result<u64, PackError> {
     if work == "decode" {
@@ -120,6 +148,12 @@ fn run(alloc: Global, words: &[String], bytes: &[u8]) -> bool {
         return false;
     };
     let wanted = u64::from(times).saturating_mul(bytes.len() as u64);
+    if work.as_str() == "parse" || work.as_str() == "steps" {
+        return match str::from_utf8(bytes) {
+            Ok(text) => text_passes(alloc, text, work.as_str(), times) == wanted,
+            Err(_) => false,
+        };
+    }
     match passes(alloc, bytes, work.as_str(), times) {
         Ok(sum) => sum == wanted,
         Err(_) => false,
