@@ -9,6 +9,8 @@
 #![tactic(auto)]
 
 mod steps;
+#[cfg(test)]
+mod tests;
 
 ghost use Rattle.std.specs.Prelude.{◌<◌, IsTrue};
 ghost use Rattle.ncc_pack.specs.Fits.{fits};

@@ -16,7 +16,7 @@ fn push_step(alloc: Global, source: &str, steps: &mut Steps) -> Result<(), Parse
 }
 
 /// The steps of a text, one in a line.
-fn steps_of(alloc: Global, text: &str) -> Result<Steps, ParseError> {
+pub(crate) fn steps_of(alloc: Global, text: &str) -> Result<Steps, ParseError> {
     let mut steps = Sequence::new(alloc);
     for line in text.split('\n') {
         if !line.is_empty() {
