@@ -4,9 +4,11 @@
 mod alone;
 mod bytes;
 mod element;
+mod encoding;
 mod error;
 mod field;
 mod fit;
+mod limits;
 mod mark;
 mod read;
 mod roomy;
@@ -19,12 +21,15 @@ mod value;
 mod write;
 
 pub use alone::{
-    dict_fits, dict_fits_within, dict_len, encode_dict, encode_list_head, encode_text,
-    encode_values, fits_deeper, list_head_len, spelled_fits, text_fits, text_len, values_fit,
-    values_fit_within, values_len,
+    dict_fits, dict_fits_within, dict_len, fits_deeper, list_head_len, spelled_fits, text_fits,
+    text_len, values_fit, values_fit_within, values_len,
 };
 pub use bytes::Bytes;
 pub use element::{Compared, Copied};
+pub use encoding::{
+    encode, encode_dict, encode_dict_within, encode_list_head, encode_list_head_within,
+    encode_text, encode_text_within, encode_values, encode_values_within, encode_within,
+};
 pub use error::PackError;
 pub use read::{decode, decode_at, one_form};
 pub use roomy::Roomy;
@@ -33,4 +38,3 @@ pub use size::short_len;
 pub use std::alloc::AllocError as Memory;
 pub use text::{Text, Words};
 pub use value::{Dict, NodeValue, Rows, Value, Values};
-pub use write::encode;
