@@ -1,8 +1,8 @@
-use Rattle.std.proofs.Common.{◌≡◌, ◌+◌, ◌≤◌, ◌++◌, length, ◌∙◌, ap, rules, arith, List, ℕ, w64, FitsSigned}
+use Rattle.std.proofs.Common.{◌≡◌, ◌++◌, ◌∙◌, rules, arith, w64, FitsSigned}
 use Rattle.std.specs.Prelude.{vec_len}
 use Rattle.std.proofs.lemmas.Int.{to_z-of_z}
 use denote.Param.Weighed.{at_most}
-use Rattle.ncc_pack.specs.Short.{integer, list, dict, short, short_pair}
+use Rattle.ncc_pack.specs.Short.{integer}
 use Rattle.ncc_pack.specs.declared.value.Value.{the_lemmas}
 use Rattle.ncc_pack.specs.declared.value.NodeValue.{the_lemmas as node_lemmas}
 use Rattle.ncc_pack.proofs.Loops.{step, step_two, spelled_more, pairs_more, item_fits, pair_parts, node_written, node_labels, node_props}

@@ -6,8 +6,8 @@ use Rattle.ncc_pack.proofs.Fitting.{and_false}
 use Rattle.ncc_pack.proofs.Room.{in_eight}
 use Rattle.ncc_pack.proofs.write.put_integer.Goals as goal
 use Rattle.ncc_pack.proofs.write.put_integer.Goals.{
-    else-number-geminus2147483648-via-then-number-geminus2147483648+else-number-lt2147483648,
-    else-number-geminus2147483648-via-else-number-geminus2147483648
+  else-number-geminus2147483648-via-then-number-geminus2147483648+else-number-lt2147483648,
+  else-number-geminus2147483648-via-else-number-geminus2147483648,
 }
 
 pub returns-clause-items : goal.returns-clause-items
