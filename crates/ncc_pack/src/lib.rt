@@ -6,6 +6,7 @@ mod bytes;
 mod error;
 mod field;
 mod fit;
+mod law;
 mod mark;
 mod read;
 mod sequence;
@@ -24,6 +25,7 @@ pub use alone::{
 };
 pub use bytes::Bytes;
 pub use error::PackError;
+pub use law::{placed_refusals, short_refusals, shortest};
 pub use read::{decode, decode_at, one_form};
 pub use sequence::Sequence;
 pub use size::short_len;
