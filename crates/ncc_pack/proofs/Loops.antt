@@ -180,6 +180,9 @@ short_list xs = short_of (v.List xs) (Value-F.List xs) (v.rolls-List xs)
 pub short_dict : (ps : List (List ℕ × Value)) → short (v.Dict ps) ≡ dict (map short_pair ps)
 short_dict ps = short_of (v.Dict ps) (Value-F.Dict ps) (v.rolls-Dict ps)
 
+pub short_node_value : (n : NodeValue) → short (v.Node n) ≡ short_node n
+short_node_value n = short_of (v.Node n) (Value-F.Node n) (v.rolls-Node n)
+
 pub text_fits : (t : List ℕ) → IsTrue (fits (v.Text t)) → length t ≤ max_size
 text_fits t h = text_size t (whole_value (v.Text t) h)
 

@@ -35,7 +35,7 @@ wide_is mark n le =
     test (IsWide mark n) (nat_lt n 0x100) _ _ (λ e. let lt : n < 256 = ltb-true n 0x100 e in let m : n % 256 ≡ n = omega arith in subst (λ (k : ℕ). IsWide mark n (mark ∷ k ∷ [])) m (one lt)) (λ _.
     test (IsWide mark n) (nat_lt n 0x1_0000) _ _ (λ e. two (ltb-true n 0x1_0000 e)) (λ _. four le))
 
-head_is : (kind : Kind) (n : ℕ) → n ≤ max_size → IsHead kind n (head kind n)
+pub head_is : (kind : Kind) (n : ℕ) → n ≤ max_size → IsHead kind n (head kind n)
 unfolding head
 head_is kind n le = test (IsHead kind n) (nat_lt n 16) _ _ (λ e. tiny (ltb-true n 16 e)) (λ _. wide (wide_head kind.wide n) (wide_is kind.wide n le))
 

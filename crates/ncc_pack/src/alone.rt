@@ -8,11 +8,10 @@ ghost use Rattle.ncc_pack.specs.Spells.{lists, spells};
 ghost use Rattle.ncc_pack.specs.Short.{head, short};
 ghost use Rattle.ncc_pack.specs.Fits.{fits, fits_within};
 
-use crate::bytes::Bytes;
+use crate::limits::MAX_DEPTH;
 use crate::text::Text;
 use crate::value::{Dict, Values};
-use crate::{fit, size, write};
-use std::alloc::AllocError;
+use crate::{fit, size};
 
 /// Says whether a text fits, as `Value::fits` does of a value.
 #[tactic(auto, using(crate::proofs::Single::fits_of_text))]
@@ -27,7 +26,7 @@ pub fn text_fits(text: &Text) -> bool
 pub fn values_fit(values: &Values) -> bool
     ensures { result ≡ fits (value.List values.now) }
 {
-    fit::list_fits(values, fit::MAX_DEPTH)
+    fit::list_fits(values, MAX_DEPTH)
 }
 
 /// Says whether a dictionary fits, as `Value::fits` does of a value.
@@ -35,7 +34,7 @@ pub fn values_fit(values: &Values) -> bool
 pub fn dict_fits(pairs: &Dict) -> bool
     ensures { result ≡ fits (value.Dict pairs.now) }
 {
-    fit::dict_fits(pairs, fit::MAX_DEPTH)
+    fit::dict_fits(pairs, MAX_DEPTH)
 }
 
 /// Says whether a list fits where so many levels are left for lists, dictionaries and nodes, of the 32 in all.
@@ -71,16 +70,6 @@ pub fn list_head_len(len: usize) -> u64
     size::head_len(len)
 }
 
-/// Appends what stands before the items of a list of so many: its marker and its size. An `Err` leaves the bytes as they
-/// were.
-pub fn encode_list_head(len: usize, into: &mut Bytes) -> Result<(), AllocError>
-    requires { len ≤ max_size }
-    ensures ok { OnOk result (into.new ≡ into.old ++ head lists len) }
-    ensures err { OnErr result (into.new ≡ into.old) }
-{
-    write::put_head(0x90, 0xD4, len, into)
-}
-
 /// The length in bytes of the shortest spelling of a text, as `short_len` tells that of a value.
 #[tactic(auto, using(crate::proofs::Loops::text_fits, crate::proofs::Single::short_text_len))]
 pub fn text_len(text: &Text) -> u64
@@ -106,55 +95,4 @@ pub fn dict_len(pairs: &Dict) -> u64
     ensures { result ≡ min (length (short (value.Dict pairs.now))) (2 ^ 64 - 1) }
 {
     size::dict_len(pairs)
-}
-
-/// Appends the shortest spelling of a text, as `encode` does that of a value. An `Err` leaves the bytes as they were.
-#[tactic(auto, using(crate::proofs::Loops::text_fits, crate::proofs::Loops::short_text))]
-pub fn encode_text(written: &Text, into: &mut Bytes) -> Result<(), AllocError>
-    requires { IsTrue (fits (value.Text written.now)) }
-    ensures ok { OnOk result (into.new ≡ into.old ++ short (value.Text written.now)) }
-    ensures err { OnErr result (into.new ≡ into.old) }
-{
-    let before = into.len();
-    match write::put_text(written, into) {
-        Ok(()) => Ok(()),
-        Err(error) => {
-            into.truncate(before);
-            Err(error)
-        }
-    }
-}
-
-/// Appends the shortest spelling of a list, as `encode` does that of a value. An `Err` leaves the bytes as they were.
-#[tactic(auto, using(crate::proofs::Loops::list_fits, crate::proofs::Loops::short_list))]
-pub fn encode_values(values: &Values, into: &mut Bytes) -> Result<(), AllocError>
-    requires { IsTrue (fits (value.List values.now)) }
-    ensures ok { OnOk result (into.new ≡ into.old ++ short (value.List values.now)) }
-    ensures err { OnErr result (into.new ≡ into.old) }
-{
-    let before = into.len();
-    match write::put_values(values, into) {
-        Ok(()) => Ok(()),
-        Err(error) => {
-            into.truncate(before);
-            Err(error)
-        }
-    }
-}
-
-/// Appends the shortest spelling of a dictionary, as `encode` does that of a value. An `Err` leaves the bytes as they were.
-#[tactic(auto, using(crate::proofs::Loops::dict_fits, crate::proofs::Loops::short_dict))]
-pub fn encode_dict(pairs: &Dict, into: &mut Bytes) -> Result<(), AllocError>
-    requires { IsTrue (fits (value.Dict pairs.now)) }
-    ensures ok { OnOk result (into.new ≡ into.old ++ short (value.Dict pairs.now)) }
-    ensures err { OnErr result (into.new ≡ into.old) }
-{
-    let before = into.len();
-    match write::put_dict(pairs, into) {
-        Ok(()) => Ok(()),
-        Err(error) => {
-            into.truncate(before);
-            Err(error)
-        }
-    }
 }

@@ -6,14 +6,11 @@ ghost use Rattle.std.specs.Str.{bytes_eq};
 ghost use Rattle.ncc_pack.specs.Keys.{distinct, keys};
 ghost use Rattle.ncc_pack.specs.Fits.{fit, fit_pair, fits, fits_i64, fits_text, fits_list, fits_dict, fits_labels, fits_node, fits_within};
 
+use crate::limits::{MAX_DEPTH, MAX_SIZE};
 use crate::text::Text;
 use crate::value::{Dict, NodeValue, Value, Values};
 use std::alloc::AllocError;
 use std::collections::BTreeSet;
-
-const MAX_SIZE: usize = 16_777_216;
-
-pub(crate) const MAX_DEPTH: u8 = 32;
 
 // Up to so many pairs, a search through the earlier keys is faster than a set.
 const FEW: usize = 8;

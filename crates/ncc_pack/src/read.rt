@@ -14,14 +14,13 @@ use crate::field::{
     behind_tag, bytes_of, id_of, key_of, label_of, other_kind, size_of, text_of, u8_at, u16_at,
     u32_at, u64_at,
 };
+use crate::limits::MAX_DEPTH;
 use crate::mark::{Mark, Size, mark_of};
 use crate::sequence::Sequence;
 use crate::text::Text;
 use crate::value::{Dict, NodeValue, Value, Values};
 use std::alloc::Global;
 use std::collections::BTreeSet;
-
-const MAX_DEPTH: u8 = 32;
 
 /// How many elements a list gets room for before its first one is read: few, whatever its size says.
 const FEW: usize = 16;
