@@ -1,5 +1,5 @@
 -- What a refusal says of the bytes themselves.
-use Rattle.std.proofs.Common.{◌≡◌, ◌⊎◌, inl, inr, ℕ, ◌-◌, List, [], ◌++◌, length, Result, Ok, Err, Some, refl, sym, ap, subst, ◌∙◌, append_assoc, append-nil, arith}
+use Rattle.std.proofs.Common.{Option, ◌+◌, ◌≤◌, ◌≡◌, ◌⊎◌, inl, inr, ℕ, ◌-◌, List, [], ◌++◌, length, Result, Ok, Err, Some, refl, sym, ap, subst, ◌∙◌, append_assoc, append-nil, arith}
 use Rattle.std.proofs.lemmas.List.{length-append}
 use Rattle.ncc_pack.specs.declared.value.Value.{Value}
 use Rattle.ncc_pack.specs.declared.error.PackError.{PackError}
@@ -7,6 +7,7 @@ use Rattle.ncc_pack.specs.declared.error.PackError.TheVariants.{Short, Float, Ba
 use Rattle.ncc_pack.specs.Reading.{Read, value_at, read_value}
 use Rattle.ncc_pack.specs.Spells.{spells}
 use Rattle.ncc_pack.specs.Offence.{AreBytes, BeginsValue, MayBegin, EndsInKey, place_of, MayGoOn, Offends, RefusedAt, StandsAt}
+use Rattle.ncc_pack.proofs.Fields.{IsBytes}
 use Rattle.ncc_pack.proofs.Taken.{value_taken}
 use Rattle.ncc_pack.proofs.Spelled.{value_again}
 use Rattle.ncc_pack.proofs.Faults.{Open, CutKey, InText, IsHard, PlacedAt, Shaped, GoesOn, NeverOk, Fault}
@@ -17,7 +18,7 @@ use Rattle.ncc_pack.proofs.Refusing.{value_reader, finds_value}
 may_begin : (z : List ℕ) → Open spells z → MayBegin z
 may_begin z o = (o.0, (o.1, z ++ o.0, [], o.2, sym (append-nil (z ++ o.0))))
 
-in_key : (z : List ℕ) → CutKey spells z → EndsInKey z
+pub in_key : (z : List ℕ) → CutKey spells z → EndsInKey z
 in_key z c = record { before = c.before; cut = c.cut; is = c.is; ends = c.ends; other = (c.other.0, c.other.1, c.other.2, may_begin (c.before ++ c.other.1) c.other.3) }
 
 from_open : (err : PackError) (z : List ℕ) → MayBegin z → MayGoOn err z
@@ -41,7 +42,7 @@ never_begins b never m =
 
 -- ---- places
 
-hard_or : (err : PackError) (n : ℕ) → PlacedAt err n → (err ≡ Short) ⊎ IsHard err
+pub hard_or : (err : PackError) (n : ℕ) → PlacedAt err n → (err ≡ Short) ⊎ IsHard err
 hard_or Short n p = inl refl
 hard_or Memory n p = absurd p
 hard_or _ n p = inr tt
@@ -72,6 +73,9 @@ shaped (KeyNotText at) o h x = x
 shaped (TooDeep at) o h x = x
 shaped (TooLong at) o h x = x
 shaped Memory o h x = absurd h
+
+abbrev some_at : ℕ → Option ℕ
+some_at i = Some i
 
 -- ---- the laws
 
@@ -138,3 +142,35 @@ stands b err at fits (e, p) =
       ends = never_begins (f.before ++ f.offence) (f.never hard);
       offends = shaped err f.offence hard f.shape;
     }
+
+-- ---- within other bytes
+
+placed_some : (err : PackError) (n : ℕ) → IsHard err → PlacedAt err n → place_of err ≡ Some n
+placed_some Short n h p = absurd h
+placed_some (Float at) n h p = ap (λ (i : ℕ). some_at i) p
+placed_some (BadMarker at) n h p = ap (λ (i : ℕ). some_at i) p
+placed_some (BadUtf8 at) n h p = ap (λ (i : ℕ). some_at i) p
+placed_some (RepeatedKey at) n h p = ap (λ (i : ℕ). some_at i) p
+placed_some (KeyNotText at) n h p = ap (λ (i : ℕ). some_at i) p
+placed_some (TooDeep at) n h p = ap (λ (i : ℕ). some_at i) p
+placed_some (TooLong at) n h p = ap (λ (i : ℕ). some_at i) p
+placed_some Memory n h p = absurd h
+
+-- what is refused from a place on: the place counts what stands before
+pub stands_in : (total : ℕ) (b : List ℕ) (err : PackError) → IsBytes b → value_at total 32 b ≡ Err err → IsHard err → length b ≤ total
+    → (at : ℕ) × (place_of err ≡ Some ((total - length b) + at)) × StandsAt b err at
+stands_in total b err fits e hard le =
+    let f = finds_value 32 total b err fits e in
+    let size = length-append f.before (f.offence ++ f.after) in
+    let long = ap length f.parts in
+    let there : total - length (f.offence ++ f.after) ≡ (total - length b) + length f.before = omega arith in
+    (length f.before, placed_some err _ hard f.place ∙ ap (λ (i : ℕ). some_at i) there, record {
+      before = f.before;
+      offence = f.offence;
+      after = f.after;
+      parts = f.parts;
+      place = refl;
+      goes_on = goes err f.before f.goes_on;
+      ends = never_begins (f.before ++ f.offence) (f.never hard);
+      offends = shaped err f.offence hard f.shape;
+    })
