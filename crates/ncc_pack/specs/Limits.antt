@@ -8,3 +8,7 @@ max_size = 16_777_216
 -- how many lists, dictionaries and nodes may stand inside one another
 abbrev pub max_depth : ℕ
 max_depth = 32
+
+-- for how many elements a size alone makes room
+abbrev pub ahead : ℕ
+ahead = 16

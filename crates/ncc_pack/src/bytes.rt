@@ -2,13 +2,14 @@
 
 ghost use Rattle.std.specs.Prelude.{◌≡◌, ◌++◌, ◌∷◌, [], length, take, IfOk, OnOk, OnErr, IsTrue, ◌↔◌};
 
+use crate::element::{Compared, Copied};
 use std::alloc::{AllocError, Global};
 use std::marker::Model;
 
 /// Bytes. A contract sees the list of them.
 #[derive(Debug, Drop)]
 pub struct Bytes {
-    inner: Vec<u8>,
+    pub(crate) inner: Vec<u8>,
 }
 
 impl Model for Bytes {
@@ -27,6 +28,21 @@ impl Bytes {
         Bytes {
             inner: Vec::new(alloc),
         }
+    }
+
+    /// The bytes of a `Vec`. It copies nothing and takes no memory.
+    pub fn from_vec(inner: Vec<u8>) -> Bytes
+        ensures same { result ≡ inner.items }
+    {
+        Bytes { inner }
+    }
+
+    /// The bytes as a `Vec`. It copies nothing and takes no memory.
+    pub fn into_vec(self) -> Vec<u8>
+        ensures same { result.items ≡ self }
+    {
+        let Bytes { inner } = self;
+        inner
     }
 
     /// A copy of these bytes.
@@ -87,5 +103,23 @@ impl Bytes {
         ensures { IfOk result (λ b. b ≡ self.now) }
     {
         Bytes::from_slice(*self.inner.allocator(), self.as_slice())
+    }
+    /// Says whether two are equal. It takes no memory.
+    pub fn equals(&self, other: &Bytes) -> bool
+        ensures exact { IsTrue result ↔ (self.now ≡ other.now) }
+    {
+        self.as_slice() == other.as_slice()
+    }
+}
+
+impl Copied for Bytes {
+    fn copy(&self) -> Result<Bytes, AllocError> {
+        Bytes::copy(self)
+    }
+}
+
+impl Compared for Bytes {
+    fn equals(&self, other: &Bytes) -> bool {
+        Bytes::equals(self, other)
     }
 }

@@ -3,18 +3,19 @@
 
 mod alone;
 mod bytes;
+mod element;
 mod error;
 mod field;
 mod fit;
 mod mark;
 mod read;
+mod roomy;
 mod sequence;
 mod size;
 #[cfg(test)]
 mod tests;
 mod text;
 mod value;
-mod words;
 mod write;
 
 pub use alone::{
@@ -23,12 +24,13 @@ pub use alone::{
     values_fit_within, values_len,
 };
 pub use bytes::Bytes;
+pub use element::{Compared, Copied};
 pub use error::PackError;
 pub use read::{decode, decode_at, one_form};
+pub use roomy::Roomy;
 pub use sequence::Sequence;
 pub use size::short_len;
 pub use std::alloc::AllocError as Memory;
-pub use text::Text;
-pub use value::{Dict, NodeValue, Value, Values, copy_dict, copy_values};
-pub use words::Words;
+pub use text::{Text, Words};
+pub use value::{Dict, NodeValue, Rows, Value, Values};
 pub use write::encode;

@@ -2,6 +2,7 @@
 
 ghost use Rattle.std.specs.Prelude.{◌≡◌, ◌++◌, ◌∷◌, [], length, IfOk, OnOk, OnErr, IsTrue, ◌↔◌};
 
+use crate::element::{Compared, Copied};
 use std::alloc::{AllocError, Global};
 use std::marker::Model;
 
@@ -90,5 +91,48 @@ impl<T: Drop> Sequence<T> {
     {
         self.inner.push(item)?;
         Ok(())
+    }
+}
+
+impl<T: Copied> Sequence<T> {
+    /// An equal list, on the same allocator.
+    pub fn copy(&self) -> Result<Sequence<T>, AllocError>
+        ensures equal { IfOk result (λ copy. copy ≡ self.now) }
+    {
+        let mut copy = Sequence::with_capacity(self.allocator(), self.len())?;
+        for item in self.as_slice() {
+            copy.push(item.copy()?)?;
+        }
+        Ok(copy)
+    }
+}
+
+impl<T: Copied> Copied for Sequence<T> {
+    fn copy(&self) -> Result<Sequence<T>, AllocError> {
+        Sequence::copy(self)
+    }
+}
+
+impl<T: Compared> Sequence<T> {
+    /// Says whether two lists are equal: as long, and equal item by item. It takes no memory.
+    pub fn equals(&self, other: &Sequence<T>) -> bool
+        ensures exact { IsTrue result ↔ (self.now ≡ other.now) }
+    {
+        if self.len() != other.len() {
+            return false;
+        }
+        let others = other.as_slice();
+        for (i, item) in self.as_slice().iter().enumerate() {
+            if !item.equals(&others[i]) {
+                return false;
+            }
+        }
+        true
+    }
+}
+
+impl<T: Compared> Compared for Sequence<T> {
+    fn equals(&self, other: &Sequence<T>) -> bool {
+        Sequence::equals(self, other)
     }
 }

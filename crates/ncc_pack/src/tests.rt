@@ -1,9 +1,9 @@
 //! Each call of each list type once, with ample memory.
 
 use crate::{
-    Bytes, Memory, NodeValue, Sequence, Text, Value, Words, copy_dict, copy_values, decode,
-    decode_at, dict_fits, dict_len, encode, encode_dict, encode_text, encode_values, short_len,
-    text_fits, text_len, values_fit, values_len,
+    Bytes, Memory, NodeValue, Sequence, Text, Value, Words, decode, decode_at, dict_fits, dict_len,
+    encode, encode_dict, encode_text, encode_values, short_len, text_fits, text_len, values_fit,
+    values_len,
 };
 use std::alloc::Global;
 use std::test::Fail;
@@ -153,7 +153,7 @@ fn repeated_keys(rt: HostRuntime) -> Result<(), Fail> {
             Value::Int(number),
         ))?;
     }
-    let many = copy_dict(&pairs)?;
+    let many = pairs.copy()?;
     assert!(rt; Value::Dict(many).fits());
     pairs.push((Text::from_str(rt.alloc(), "k3")?, Value::Null))?;
     assert!(rt; !Value::Dict(pairs).fits());
@@ -162,6 +162,6 @@ fn repeated_keys(rt: HostRuntime) -> Result<(), Fail> {
     few.push((Text::from_str(rt.alloc(), "k")?, Value::Null))?;
     let mut all = Sequence::from_vec(Sequence::new(rt.alloc()).into_vec());
     all.push(Value::Dict(few))?;
-    assert!(rt; !Value::List(copy_values(&all)?).fits());
+    assert!(rt; !Value::List(all.copy()?).fits());
     Ok(())
 }

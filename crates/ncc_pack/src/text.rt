@@ -2,6 +2,8 @@
 
 ghost use Rattle.std.specs.Prelude.{◌≡◌, ◌++◌, [], length, IfOk, OnOk, OnErr, IsTrue, ◌↔◌};
 
+use crate::element::{Compared, Copied};
+use crate::sequence::Sequence;
 use std::alloc::{AllocError, Global};
 use std::marker::Model;
 
@@ -10,6 +12,9 @@ use std::marker::Model;
 pub struct Text {
     inner: String,
 }
+
+/// A list of texts, such as the arguments of a program. A contract sees the list of their bytes.
+pub type Words = Sequence<Text>;
 
 impl Model for Text {
     ghost use Rattle.std.specs.Prelude.{List, ℕ};
@@ -72,5 +77,23 @@ impl Text {
         ensures { IfOk result (λ t. t ≡ self.now) }
     {
         Text::from_str(*self.inner.allocator(), self.as_str())
+    }
+    /// Says whether two are equal. It takes no memory.
+    pub fn equals(&self, other: &Text) -> bool
+        ensures exact { IsTrue result ↔ (self.now ≡ other.now) }
+    {
+        self.as_str() == other.as_str()
+    }
+}
+
+impl Copied for Text {
+    fn copy(&self) -> Result<Text, AllocError> {
+        Text::copy(self)
+    }
+}
+
+impl Compared for Text {
+    fn equals(&self, other: &Text) -> bool {
+        Text::equals(self, other)
     }
 }
