@@ -27,12 +27,14 @@ fn reads_from_memory(rt: HostRuntime) -> Result<(), Fail> {
 fn writes_to_memory(rt: HostRuntime) -> Result<(), Fail> {
     let mut sink = MemSink::new(rt.alloc(), &[2, 4])?;
     assert_eq!(rt; sink.held().len(), 0);
+    assert_eq!(rt; sink.flushed().len(), 0);
     assert_eq!(rt; sink.write(&[1, 2]), Ok(()));
     assert_eq!(rt; sink.write(&[3]), Err(SinkError::Failed));
     assert_eq!(rt; sink.flush(), Ok(()));
     assert_eq!(rt; sink.flush(), Err(Failed));
     assert_eq!(rt; sink.write(&[4]), Ok(()));
     assert_eq!(rt; sink.held(), [1u8, 2, 4].as_slice());
+    assert_eq!(rt; sink.flushed(), [1u8, 2].as_slice());
     Ok(())
 }
 

@@ -7,8 +7,8 @@ use Rattle.std.proofs.lemmas.Option.{slice_get-get_or}
 use Rattle.std.proofs.lemmas.Bool.{false≢true}
 use Rattle.ncc_bookmark.specs.Point.{greatest_place}
 use Rattle.ncc_wait.specs.Waiting.{outcome_of}
-use Rattle.ncc_wait.specs.declared.ends.Outcome.{Outcome}
-use Rattle.ncc_wait.specs.declared.ends.Outcome.TheVariants.{Ready, NotYet, Late as IsLate}
+use Rattle.ncc_wait.specs.declared.outcomes.Outcome.{Outcome}
+use Rattle.ncc_wait.specs.declared.outcomes.Outcome.TheVariants.{Ready, NotYet, Late as IsLate}
 use Rattle.ncc_replay.specs.State.{last_value}
 use Rattle.ncc_replay.specs.Run.{Run, applied_of, at_of, longest, turn, reply, replies, enters, runs, leaves, answers, tells, proposes, appended, next}
 use Rattle.ncc_replay.specs.declared.reply.Reply.{Reply}

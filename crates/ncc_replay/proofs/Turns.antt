@@ -8,8 +8,8 @@ use Rattle.std.proofs.lemmas.List.Quantifiers.{position-Some}
 use Rattle.std.proofs.lemmas.Bool.{false≢true}
 use Rattle.std.proofs.lemmas.Option.{get_or_from_slice_get}
 use Rattle.ncc_wait.specs.Waiting.{outcome_of}
-use Rattle.ncc_wait.specs.declared.ends.Outcome.{Outcome}
-use Rattle.ncc_wait.specs.declared.ends.Outcome.TheVariants.{Ready, NotYet, Late as IsLate}
+use Rattle.ncc_wait.specs.declared.outcomes.Outcome.{Outcome}
+use Rattle.ncc_wait.specs.declared.outcomes.Outcome.TheVariants.{Ready, NotYet, Late as IsLate}
 use Rattle.ncc_replay.specs.Run.{Run, turn, turn_at, turn_by, acts, reply, replies, enters, runs, leaves, answers, next, turns_left, all_turns_left, at_of, is_answer, settled_in, settled}
 use Rattle.ncc_replay.specs.declared.reply.Reply.{Reply}
 use Rattle.ncc_replay.specs.declared.reply.Reply.TheVariants.{Waits, Tells, Proposes}

@@ -4,8 +4,8 @@ use Rattle.std.specs.Prelude.{replicate}
 use Rattle.std.specs.List.{AllByRecursion}
 use Rattle.std.proofs.lemmas.Bool.{false≢true, le-leb}
 use Rattle.ncc_wait.specs.Waiting.{outcome_of}
-use Rattle.ncc_wait.specs.declared.ends.Outcome.{Outcome}
-use Rattle.ncc_wait.specs.declared.ends.Outcome.TheVariants.{Ready, NotYet, Late as IsLate}
+use Rattle.ncc_wait.specs.declared.outcomes.Outcome.{Outcome}
+use Rattle.ncc_wait.specs.declared.outcomes.Outcome.TheVariants.{Ready, NotYet, Late as IsLate}
 use Rattle.ncc_replay.specs.Run.{Run, at_of, turn, acts, replies, enters, runs, leaves, is_answer, settled, all_turns_left, steps, run_on, begun}
 use Rattle.ncc_replay.specs.declared.reply.Reply.TheVariants.{Tells, Waits}
 use Rattle.ncc_replay.specs.Request.{Request, requests, requests_from}

@@ -2,7 +2,7 @@
 use Rattle.std.specs.Prelude.{◌≡◌, ℕ, ◌-◌, ◌<◌, ◌≤◌, ◌==◌, Bool, false, List, ◌++◌, take, Some, slice_get, count_by}
 use Rattle.std.specs.List.{AllByRecursion}
 use Rattle.ncc_wait.specs.Waiting.{outcome_of}
-use Rattle.ncc_wait.specs.declared.ends.Outcome.TheVariants.{NotYet}
+use Rattle.ncc_wait.specs.declared.outcomes.Outcome.TheVariants.{NotYet}
 use Rattle.ncc_replay.specs.Run.{Run, at_of, run_on}
 use Rattle.ncc_replay.specs.Request.{Request, requests}
 use Rattle.ncc_replay.specs.Moment.{IsMoment, AfterEach}

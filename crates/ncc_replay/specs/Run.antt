@@ -3,8 +3,8 @@
 use Rattle.std.specs.Prelude.{ℕ, zero, suc, ◌+◌, ◌-◌, ◌^◌, nat_lt, nat_le, ◌==◌, Bool, true, false, List, [], ◌∷◌, ◌++◌, length, take, drop, Option, None, Some, min, replicate, position, slice_get, slice_set, slice_index_or, sum_by, if◌then◌else◌}
 use Rattle.ncc_bookmark.specs.Point.{Point, greatest_place}
 use Rattle.ncc_wait.specs.Waiting.{outcome_of}
-use Rattle.ncc_wait.specs.declared.ends.Outcome.{Outcome}
-use Rattle.ncc_wait.specs.declared.ends.Outcome.TheVariants.{Ready, NotYet, Late as IsLate}
+use Rattle.ncc_wait.specs.declared.outcomes.Outcome.{Outcome}
+use Rattle.ncc_wait.specs.declared.outcomes.Outcome.TheVariants.{Ready, NotYet, Late as IsLate}
 use Rattle.ncc_replay.specs.State.{last_value}
 use Rattle.ncc_replay.specs.declared.item.Item.{Item}
 use Rattle.ncc_replay.specs.declared.event.Event.{Event}

@@ -1,10 +1,10 @@
 //! Waits for a place of the history, with a deadline.
 #![tactic(auto)]
 
-mod ends;
-mod judge;
+mod outcome_at;
+mod outcomes;
 #[cfg(test)]
 mod tests;
 
-pub use ends::Outcome;
-pub use judge::outcome;
+pub use outcome_at::outcome;
+pub use outcomes::Outcome;

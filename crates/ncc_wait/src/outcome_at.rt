@@ -3,7 +3,7 @@
 ghost use Rattle.std.specs.Prelude.{◌≡◌, ◌<◌, ◌≤◌, ◌↔◌};
 ghost use Rattle.ncc_wait.specs.Waiting.{outcome_of};
 
-use crate::ends::Outcome;
+use crate::outcomes::Outcome;
 
 /// Judges a wait for the place `need` at a member that has applied `at` places, at the moment `now`, with a
 /// `deadline`; both are in milliseconds. A place that is reached is never late, and a deadline has not passed
