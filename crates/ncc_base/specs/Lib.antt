@@ -1,2 +1,6 @@
 pub mod Faults
 pub mod Memory
+pub mod Disk
+pub mod MemDisk
+pub mod Noted
+pub mod MemLaws

@@ -1,0 +1,5 @@
+mod Places
+mod Contents
+mod Past
+mod Calls
+mod Kept
