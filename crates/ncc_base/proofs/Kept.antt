@@ -53,3 +53,37 @@ device_noted d x past' setting' faults' p s f =
 
 pub saturated : (f r : ℕ) → r ≡ min (f + 1) 18446744073709551615 → f < 2 ^ 64 → r ≡ one_more f
 saturated f r e le = grind (arith, nat_tests)
+
+-- nothing was asked yet
+unfolds_nothing : (flat : List ℕ) → unfolded [] flat ≡ []
+unfolding unfolded
+unfolds_nothing flat = refl
+
+after_nothing : (c : Content) → after [] c ≡ c
+unfolding after
+after_nothing c = refl
+
+total_nothing : total [] ≡ 0
+unfolding total
+total_nothing = refl
+
+pub unfolds_none : (past : List Noted) (flat : List ℕ) → past ≡ [] → unfolded past flat ≡ []
+unfolds_none past flat e = ap (λ (l : List Noted). unfolded l flat) e ∙ unfolds_nothing flat
+
+pub kept_from : (base stable seen : List ℕ) (ranges : List Range) (past : List Noted) (flat : List ℕ)
+  → stable ≡ base → seen ≡ base → ranges ≡ [] → past ≡ [] → flat ≡ [] → IsKept base stable seen ranges past flat
+kept_from base stable seen ranges past flat st se r p f = record {
+  content =
+    ap (λ (l : List Done). after l (begun base)) (unfolds_none past flat p)
+    ∙ after_nothing (begun base)
+    ∙ sym (ap (λ (l : List ℕ). record { seen = l; stable = stable; ranges = ranges }) se
+        ∙ ap (λ (l : List ℕ). record { seen = base; stable = l; ranges = ranges }) st
+        ∙ ap (λ (l : List Range). record { seen = base; stable = base; ranges = l }) r);
+  used = ap (λ (l : List Noted). total l) p ∙ total_nothing ∙ sym (ap (λ (l : List ℕ). length l) f)
+}
+
+pub device_from : (base : List ℕ) (past : List Noted) (flat : List ℕ) (setting : Setting) (faults : ℕ) (want : List ℕ) → base ≡ want → past ≡ []
+  → ◌≡◌ {A = Device} (record { base = base; past = unfolded past flat; setting = setting; faults = faults }) (record { base = want; past = []; setting = setting; faults = faults })
+device_from base past flat setting faults want b p =
+    let D : List ℕ → List Done → Device = λ l ds. record { base = l; past = ds; setting = setting; faults = faults } in
+    ap (λ (l : List ℕ). D l (unfolded past flat)) b ∙ ap (λ (ds : List Done). D want ds) (unfolds_none past flat p)

@@ -3,3 +3,4 @@ mod Contents
 mod Past
 mod Calls
 mod Kept
+mod Drawn

@@ -121,22 +121,25 @@ did_sync d = noted (record { asked = Sync (goes (course d.setting)); made = goes
 
 -- ---- crashes
 
-abbrev pub is_pending : Content → ℕ → Bool
-is_pending c p = nat_le (length c.stable) p || is_written p c.ranges
+-- the byte at a place is past the old end, or was written since
+abbrev pub is_pending : List ℕ → List Range → ℕ → Bool
+is_pending stable ranges p = nat_le (length stable) p || is_written p ranges
 
--- so many bytes from a place on: those that are pending are the low bytes of words, one after the other
-unfoldable pub drawn : Lcg → Content → ℕ → ℕ → List ℕ
-drawn g c p zero = []
-drawn g c p (suc n) = if is_pending c p
-  then ((pcg32 g).0 % 256) ∷ drawn (pcg32 g).1 c (p + 1) n
-  else byte_at c.stable p ∷ drawn g c (p + 1) n
+-- the byte that a crash leaves at a place, and the words behind it: one that is pending is the low byte of the next word
+abbrev pub drawn_byte : Lcg → List ℕ → List Range → ℕ → ℕ × Lcg
+drawn_byte g stable ranges p = if is_pending stable ranges p then ((pcg32 g).0 % 256, (pcg32 g).1) else (byte_at stable p, g)
+
+-- so many bytes, from a place on
+unfoldable pub drawn : Lcg → List ℕ → List Range → ℕ → ℕ → List ℕ
+drawn g stable ranges p zero = []
+drawn g stable ranges p (suc n) = (drawn_byte g stable ranges p).0 ∷ drawn (drawn_byte g stable ranges p).1 stable ranges (p + 1) n
 
 abbrev pub seeded : ℕ → Lcg
 seeded word = pcg32_of_seed (pcg32_seed 16 word)
 
 -- word 0 leaves what was stable, word 1 what a read gives; any other draws what is pending, at the length that a read gives
 abbrev pub left_by : ℕ → Content → List ℕ
-left_by word c = if nat_eq word 0 then c.stable else (if nat_eq word 1 then c.seen else drawn (seeded word) c 0 (length c.seen))
+left_by word c = if nat_eq word 0 then c.stable else (if nat_eq word 1 then c.seen else drawn (seeded word) c.stable c.ranges 0 (length c.seen))
 
 abbrev pub crashed : ℕ → Device → Device
 crashed word d = record { base = left_by word (content d); past = []; setting = Sound; faults = d.faults }

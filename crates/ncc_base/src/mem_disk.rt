@@ -4,7 +4,7 @@ ghost use Rattle.std.specs.Prelude.{◌≡◌, ◌≤◌, ◌<◌, ◌+◌, ◌%
 ghost use Rattle.ncc_base.specs.Faults.{one_more};
 ghost use Rattle.ncc_base.specs.Faults.{Rose};
 ghost use Rattle.ncc_base.specs.Disk.{AsksOneMore, Elapses, Follows, Holds, Only, Stays, Sync, Torn, Write};
-ghost use Rattle.ncc_base.specs.MemDisk.{AskedSince, IsImage, LeftSince, MemState, begun, byte_at, content, course, crashed, did_sync, drawn, goes, is_in, is_pending, is_written, next, seeded, writes, wrote};
+ghost use Rattle.ncc_base.specs.MemDisk.{AskedSince, IsImage, LeftSince, MemState, begun, byte_at, content, course, crashed, did_sync, drawn, drawn_byte, goes, is_in, is_pending, is_written, left_by, next, seeded, writes, wrote};
 
 use crate::bytes::Bytes;
 use crate::disk::{Armed, Disk, DiskError};
@@ -370,4 +370,118 @@ impl Disk for MemDisk {
     ghost asked_nothing_now = { λ m. asked_none m.device };
 
     ghost asked_once = { λ m t a b told x y. x ∙ sym y };
+}
+
+impl Armed for MemDisk {
+    fn fail_at(&mut self, call: u64) {
+        self.setting = if call == 0 {
+            Setting::Sound
+        } else {
+            Setting::FailAt(call)
+        };
+    }
+
+    fn stop_at(&mut self, call: u64) {
+        self.setting = if call == 0 {
+            Setting::Sound
+        } else {
+            Setting::StopAt(call)
+        };
+    }
+}
+
+// The byte that a crash leaves at a place, where it draws what is pending.
+fn draw_byte(words: &mut Pcg32, stable: &[u8], ranges: &[Range], place: usize) -> u8
+    ensures { (result, words.new) ≡ drawn_byte words.old stable.now ranges.now place }
+{
+    if place >= stable.len() || is_written(place as u64, ranges) {
+        return (words.next_word() % 256) as u8;
+    }
+    stable[place]
+}
+
+// So many bytes that a crash leaves, where it draws what is pending.
+fn draw(
+    alloc: Global,
+    word: u64,
+    stable: &[u8],
+    ranges: &[Range],
+    size: usize,
+) -> Result<Vec<u8>, AllocError>
+    ensures { IfOk result (λ v. v.items ≡ drawn (seeded word) stable.now ranges.now 0 size) }
+{
+    let mut words = Pcg32::seed_from_u64(word);
+    let mut left = Vec::with_capacity(alloc, size)?;
+    for place in 0..size {
+        left.push(draw_byte(&mut words, stable, ranges, place))?;
+    }
+    Ok(left)
+}
+
+// What a crash leaves.
+fn left_by(
+    alloc: Global,
+    word: u64,
+    stable: &[u8],
+    seen: &[u8],
+    ranges: &[Range],
+) -> Result<Vec<u8>, AllocError>
+    ensures { IfOk result (λ v. v.items ≡ left_by word (record { seen = seen.now; stable = stable.now; ranges = ranges.now })) }
+{
+    if word == 0 {
+        return stable.to_vec(alloc);
+    }
+    if word == 1 {
+        return seen.to_vec(alloc);
+    }
+    draw(alloc, word, stable, ranges, seen.len())
+}
+
+impl MemDisk {
+    /// An empty disk that nothing makes fail.
+    pub fn new(alloc: Global) -> Result<MemDisk, AllocError>
+        ensures device { IfOk result (λ m. m.device ≡ record { base = []; past = []; setting = Setting.Sound; faults = 0 }) }
+    {
+        Ok(MemDisk {
+            base: Vec::new(alloc),
+            stable: Vec::new(alloc),
+            seen: Vec::new(alloc),
+            ranges: Vec::new(alloc),
+            past: Vec::new(alloc),
+            bytes: Vec::new(alloc),
+            setting: Setting::Sound,
+            faults: 0,
+        })
+    }
+
+    /// A crash. Word 0 leaves what was there at the last sync that succeeded; word 1 what a read gives. Any other word
+    /// leaves a content of the length that a read gives, in which each byte that was written since, or stands past the
+    /// old end, is the low byte of the next word of `Pcg32::seed_from_u64(word)`, by ascending place. Settings are
+    /// cleared, and nothing is pending. It is the caller's moment: nothing is said of moments before it. An `Err`
+    /// leaves the disk, its settings too.
+    pub fn crash(&mut self, word: u64) -> Result<(), AllocError>
+        ensures exact { OnOk result (self.new.device ≡ crashed word self.old.device) }
+        // What it leaves is one of the contents that a crash may leave.
+        ensures image { OnOk result (IsImage (content self.old.device) (content self.new.device).seen) }
+        ensures err { OnErr result (self.new.device ≡ self.old.device) }
+    {
+        let alloc = *self.seen.allocator();
+        let base = left_by(
+            alloc,
+            word,
+            self.stable.as_slice(),
+            self.seen.as_slice(),
+            self.ranges.as_slice(),
+        )?;
+        let stable = Vec::from_slice(alloc, base.as_slice())?;
+        let seen = Vec::from_slice(alloc, base.as_slice())?;
+        self.base = base;
+        self.stable = stable;
+        self.seen = seen;
+        self.ranges.clear();
+        self.past.clear();
+        self.bytes.clear();
+        self.setting = Setting::Sound;
+        Ok(())
+    }
 }
