@@ -3,6 +3,7 @@
 
 mod bytes;
 mod disk;
+mod file_disk;
 mod mem_disk;
 mod memory;
 mod sink;
@@ -13,6 +14,7 @@ mod tests;
 
 pub use bytes::Bytes;
 pub use disk::{Armed, Disk, DiskError};
+pub use file_disk::FileDisk;
 pub use mem_disk::MemDisk;
 pub use memory::{MemSink, MemSource};
 pub use sink::{Sink, SinkError};
