@@ -1,7 +1,9 @@
 -- Bytes at their places, in contents that are put together.
-use Rattle.std.proofs.Common.{◌≡◌, ◌⊎◌, inl, inr, ℕ, ◌+◌, ◌-◌, ◌<◌, ◌≤◌, List, [], ◌∷◌, ◌++◌, length, take, drop, get_or, refl, sym, ◌∙◌, ap, subst, arith, length-append, length-drop, append_assoc, Bool, true, false}
+use Rattle.std.proofs.Common.{◌≡◌, ◌⊎◌, inl, inr, ℕ, ◌+◌, ◌-◌, ◌<◌, ◌≤◌, List, [], ◌∷◌, ◌++◌, length, take, drop, get_or, refl, sym}
+use Rattle.std.proofs.Common.{◌∙◌, ap, subst, arith, length-append, length-drop, append_assoc, Bool, true, false}
 use Rattle.std.specs.Prelude.{nat_le, nat_lt, ◌&&◌, max, min, if◌then◌else◌}
-use Rattle.std.proofs.lemmas.List.{length-take-le, get_or_append_left, get_or-append_right, get_or-take, get_or-drop, get_or_past, drop-drop}
+use Rattle.std.proofs.lemmas.List.{length-take-le, get_or_append_left, get_or-append_right, get_or-take, get_or-drop, get_or_past}
+use Rattle.std.proofs.lemmas.List.{drop-drop}
 use Rattle.std.proofs.lemmas.Bool.{cases_lt}
 use Rattle.std.proofs.lemmas.Bool.Decides.{nat_tests}
 use borrow.Rule.Slice.PartMut.{put_mid}
@@ -11,7 +13,7 @@ use Rattle.ncc_base.specs.declared.mem_disk.Range.{Range}
 
 -- the bytes of a range, taken over from another content of the same length
 module _ (r : Range) (a n : ℕ) (to from ys : List ℕ) (same : length to ≡ length from) (first : a ≡ min (length from) r.at)
-  (many : n ≡ min (length from - a) r.count) (is : ys ≡ take n (drop a from)) where
+    (many : n ≡ min (length from - a) r.count) (is : ys ≡ take n (drop a from)) where
   long : length ys ≡ n
   long = ap (λ (l : List ℕ). length l) is ∙ length-take-le n (drop a from) (omega (arith, many, first, length-drop a from))
 
@@ -34,13 +36,16 @@ module _ (r : Range) (a n : ℕ) (to from ys : List ℕ) (same : length to ≡ l
         behind_it a ys to p low (omega (arith, first, many, long, past))
         ∙ get_or_past to p 0 (omega (arith, past, same))
         ∙ sym (get_or_past from p 0 past)
-    ]
+  ]
 
   when_out : (p : ℕ) → (p < r.at) ⊎ (r.at + r.count ≤ p) → byte_at (with_bytes a ys to) p ≡ byte_at to p
   when_out p apart = elim (below_or p a) [
     | inl under ↦ before_it a ys to p low under
-    | inr up ↦ behind_it a ys to p low (elim apart [ inl l ↦ omega (arith, l, up, first, many, long) | inr h ↦ omega (arith, h, first, many, long) ])
-    ]
+    | inr up ↦ behind_it a ys to p low (elim apart [
+      | inl l ↦ omega (arith, l, up, first, many, long)
+      | inr h ↦ omega (arith, h, first, many, long)
+    ])
+  ]
 
   pub taken_over : (p : ℕ) → byte_at (with_bytes a ys to) p ≡ (if is_in p r then byte_at from p else byte_at to p)
   taken_over p = go (is_in p r) refl where

@@ -1,5 +1,6 @@
 -- A disk in memory: what it holds, by what it was asked and what of that had its effect.
-use Rattle.std.specs.Prelude.{◌≡◌, ℕ, zero, suc, ◌+◌, ◌-◌, ◌<◌, ◌≤◌, ◌%◌, nat_lt, nat_le, nat_eq, Bool, true, false, ◌&&◌, ◌||◌, if◌then◌else◌, List, [], ◌∷◌, ◌++◌, length, take, drop, map}
+use Rattle.std.specs.Prelude.{◌≡◌, ℕ, zero, suc, ◌+◌, ◌-◌, ◌<◌, ◌≤◌, ◌%◌, nat_lt, nat_le, nat_eq, Bool, true, false, ◌&&◌, ◌||◌}
+use Rattle.std.specs.Prelude.{if◌then◌else◌, List, [], ◌∷◌, ◌++◌, length, take, drop, map}
 use Rattle.std.proofs.Common.{get_or}
 use Rattle.std.specs.List.{list_any}
 use Rattle.rand_core.specs.Pcg32Seed.{pcg32_seed}
@@ -36,7 +37,11 @@ abbrev pub with_bytes : ℕ → List ℕ → List ℕ → List ℕ
 with_bytes at bytes old = take at old ++ bytes ++ drop (at + length bytes) old
 
 abbrev pub effect : Asked → Content → Content
-effect (Write at bytes ok) c = record { seen = with_bytes at bytes c.seen; stable = c.stable; ranges = c.ranges ++ record { at = at; count = length bytes } ∷ [] }
+effect (Write at bytes ok) c = record {
+  seen = with_bytes at bytes c.seen;
+  stable = c.stable;
+  ranges = c.ranges ++ record { at = at; count = length bytes } ∷ [];
+}
 effect (Sync ok) c = record { seen = c.seen; stable = c.seen; ranges = [] }
 
 abbrev pub one : Done → Content → Content
@@ -109,7 +114,7 @@ noted done d = record {
   base = d.base;
   past = d.past ++ done ∷ [];
   setting = next d.setting;
-  faults = if goes (course d.setting) then d.faults else one_more d.faults
+  faults = if goes (course d.setting) then d.faults else one_more d.faults;
 }
 
 -- after a write, and after a sync
@@ -139,7 +144,8 @@ seeded word = pcg32_of_seed (pcg32_seed 16 word)
 
 -- word 0 leaves what was stable, word 1 what a read gives; any other draws what is pending, at the length that a read gives
 abbrev pub left_by : ℕ → Content → List ℕ
-left_by word c = if nat_eq word 0 then c.stable else (if nat_eq word 1 then c.seen else drawn (seeded word) c.stable c.ranges 0 (length c.seen))
+left_by word c = if nat_eq word 0 then c.stable else (if nat_eq word 1 then c.seen else drawn (seeded word) c.stable c.ranges 0
+    (length c.seen))
 
 abbrev pub crashed : ℕ → Device → Device
 crashed word d = record { base = left_by word (content d); past = []; setting = Sound; faults = d.faults }

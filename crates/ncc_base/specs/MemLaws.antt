@@ -1,5 +1,6 @@
 -- Laws of a disk in memory: what a read gives is one of the contents that a crash may leave, and this moment counts.
-use Rattle.std.proofs.Common.{◌≡◌, ◌⊎◌, inl, inr, ℕ, ◌+◌, ◌-◌, ◌<◌, ◌≤◌, List, [], ◌∷◌, ◌++◌, length, take, drop, map, get_or, refl, sym, ◌∙◌, ap, subst, arith, length-append, length-drop, length-take, Bool, true, false, if◌then◌else◌}
+use Rattle.std.proofs.Common.{◌≡◌, ◌⊎◌, inl, inr, ℕ, ◌+◌, ◌-◌, ◌<◌, ◌≤◌, List, [], ◌∷◌, ◌++◌, length, take, drop, map, get_or, refl}
+use Rattle.std.proofs.Common.{sym, ◌∙◌, ap, subst, arith, length-append, length-drop, length-take, Bool, true, false, if◌then◌else◌}
 use Rattle.std.specs.Prelude.{nat_le, nat_lt, ◌&&◌, ◌||◌, max}
 use Rattle.std.specs.List.{list_any}
 use Rattle.std.proofs.lemmas.List.{length-take-le, get_or_append_left, get_or-append_right, get_or-take, get_or-drop, take_all, drop_all}
@@ -7,7 +8,8 @@ use Rattle.std.proofs.lemmas.List.Folds.{list_any-append}
 use Rattle.std.proofs.lemmas.Bool.{cases_lt}
 use Rattle.std.proofs.lemmas.Bool.Decides.{nat_tests}
 use Rattle.ncc_base.specs.Disk.{Asked, Write, Sync}
-use Rattle.ncc_base.specs.MemDisk.{AskedSince, Content, Device, Done, IsImage, LeftSince, after, begun, byte_at, content, effect, is_in, is_written, one, with_bytes}
+use Rattle.ncc_base.specs.MemDisk.{AskedSince, Content, Device, Done, IsImage, LeftSince, after, begun, byte_at, content, effect}
+use Rattle.ncc_base.specs.MemDisk.{is_in, is_written, one, with_bytes}
 use Rattle.ncc_base.specs.declared.mem_disk.Range.{Range}
 
 -- ---- bytes at their places
@@ -17,7 +19,12 @@ front_long at bytes old le = omega (arith, length-append (take at old) bytes, le
 
 pub long_with : (at : ℕ) (bytes old : List ℕ) → at ≤ length old → length (with_bytes at bytes old) ≡ max (length old) (at + length bytes)
 long_with at bytes old le =
-    omega (arith, length-append (take at old ++ bytes) (drop (at + length bytes) old), front_long at bytes old le, length-drop (at + length bytes) old)
+    omega (
+      arith,
+      length-append (take at old ++ bytes) (drop (at + length bytes) old),
+      front_long at bytes old le,
+      length-drop (at + length bytes) old,
+    )
 
 pub before_it : (at : ℕ) (bytes old : List ℕ) (p : ℕ) → at ≤ length old → p < at → byte_at (with_bytes at bytes old) p ≡ byte_at old p
 before_it at bytes old p le low =
@@ -25,12 +32,14 @@ before_it at bytes old p le low =
     ∙ get_or_append_left (take at old) bytes 0 p (omega (arith, length-take-le at old le))
     ∙ get_or-take at old p 0 low
 
-pub within_it : (at : ℕ) (bytes old : List ℕ) (p : ℕ) → at ≤ length old → at ≤ p → p < at + length bytes → byte_at (with_bytes at bytes old) p ≡ byte_at bytes (p - at)
+pub within_it : (at : ℕ) (bytes old : List ℕ) (p : ℕ) → at ≤ length old → at ≤ p → p < at + length bytes →
+    byte_at (with_bytes at bytes old) p ≡ byte_at bytes (p - at)
 within_it at bytes old p le low high =
     get_or_append_left (take at old ++ bytes) (drop (at + length bytes) old) 0 p (omega (arith, front_long at bytes old le, high))
     ∙ get_or-append_right (take at old) bytes at p 0 (length-take-le at old le) low
 
-pub behind_it : (at : ℕ) (bytes old : List ℕ) (p : ℕ) → at ≤ length old → at + length bytes ≤ p → byte_at (with_bytes at bytes old) p ≡ byte_at old p
+pub behind_it : (at : ℕ) (bytes old : List ℕ) (p : ℕ) → at ≤ length old → at + length bytes ≤ p →
+    byte_at (with_bytes at bytes old) p ≡ byte_at old p
 behind_it at bytes old p le high =
     get_or-append_right (take at old ++ bytes) (drop (at + length bytes) old) (at + length bytes) p 0 (front_long at bytes old le) high
     ∙ get_or-drop (at + length bytes) old (p - (at + length bytes)) 0
@@ -74,19 +83,32 @@ none_of p rs r none =
 
 past_end : (at : ℕ) (bytes old : List ℕ) (p : ℕ) → length old < at → p < length old → byte_at (with_bytes at bytes old) p ≡ byte_at old p
 past_end at bytes old p far le =
-    get_or_append_left (take at old ++ bytes) (drop (at + length bytes) old) 0 p (omega (arith, length-append (take at old) bytes, length-take at old, far, le))
+    get_or_append_left (take at old ++ bytes) (drop (at + length bytes) old) 0 p (omega (
+      arith,
+      length-append (take at old) bytes,
+      length-take at old,
+      far,
+      le,
+    ))
     ∙ get_or_append_left (take at old) bytes 0 p (omega (arith, length-take at old, far, le))
     ∙ get_or-take at old p 0 (omega (arith, far, le))
 
-outside_same : (at : ℕ) (bytes old : List ℕ) (p : ℕ) → p < length old → (p < at) ⊎ (at + length bytes ≤ p) → byte_at (with_bytes at bytes old) p ≡ byte_at old p
+outside_same : (at : ℕ) (bytes old : List ℕ) (p : ℕ) → p < length old → (p < at) ⊎ (at + length bytes ≤ p) →
+    byte_at (with_bytes at bytes old) p ≡ byte_at old p
 outside_same at bytes old p le apart = elim (cases_lt (length old) at) [
   | inl far ↦ past_end at bytes old p far le
   | inr near ↦ elim apart [ inl low ↦ before_it at bytes old p near low | inr high ↦ behind_it at bytes old p near high ]
-  ]
+]
 
 no_shorter_with : (at : ℕ) (bytes old : List ℕ) → length old ≤ length (with_bytes at bytes old)
 no_shorter_with at bytes old =
-    omega (arith, length-append (take at old ++ bytes) (drop (at + length bytes) old), length-append (take at old) bytes, length-take at old, length-drop (at + length bytes) old)
+    omega (
+      arith,
+      length-append (take at old ++ bytes) (drop (at + length bytes) old),
+      length-append (take at old) bytes,
+      length-take at old,
+      length-drop (at + length bytes) old,
+    )
 
 pub sane_begun : (base : List ℕ) → Sane (begun base)
 sane_begun base = record { no_shorter = omega arith; no_longer = omega arith; same = λ p le none. refl }
@@ -96,8 +118,11 @@ sane_effect (Write at bytes ok) c sane = record {
   no_shorter = omega (arith, sane.no_shorter, no_shorter_with at bytes c.seen);
   no_longer = omega arith;
   same = λ p le none.
-    let parts = none_of p c.ranges (record { at = at; count = length bytes }) none in
-    outside_same at bytes c.seen p (omega (arith, le, sane.no_shorter)) (outside p (record { at = at; count = length bytes }) parts.1) ∙ sane.same p le parts.0
+      let parts = none_of p c.ranges (record { at = at; count = length bytes }) none in
+      outside_same at bytes c.seen p (omega (arith, le, sane.no_shorter)) (outside p (record {
+        at = at;
+        count = length bytes;
+      }) parts.1) ∙ sane.same p le parts.0;
 }
 sane_effect (Sync ok) c sane = record { no_shorter = omega arith; no_longer = omega arith; same = λ p le none. refl }
 
@@ -123,7 +148,12 @@ sane d = sane_content d.past d.base
 
 pub counts : (d : Device) (t : ℕ) (c : List ℕ) → t ≤ length d.past → IsImage (content d) c → LeftSince d t c
 counts d t c le now =
-    record { moment = length d.past; from = le; until = omega arith; image = subst (λ (l : List Done). IsImage (after l (begun d.base)) c) (sym (take_all (length d.past) d.past (omega arith))) now }
+    record {
+      moment = length d.past;
+      from = le;
+      until = omega arith;
+      image = subst (λ (l : List Done). IsImage (after l (begun d.base)) c) (sym (take_all (length d.past) d.past (omega arith))) now;
+    }
 
 pub only : (d : Device) (c : List ℕ) → LeftSince d (length d.past) c → IsImage (content d) c
 only d c left =

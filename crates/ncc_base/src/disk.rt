@@ -116,8 +116,10 @@ pub trait Disk {
         ensures torn { told → Torn at (length bytes.now) (seen self.old) (seen self.new) }
         ensures crash { told → Follows (Torn at (length bytes.now)) (may_leave self.old) (may_leave self.new) }
         ensures time { told → Elapses (moment self.old) (moment self.new) (left_since self.old) (left_since self.new) (may_leave self.new) }
-        ensures asked { OnOk result (AsksOneMore (moment self.old) (Write at bytes.now true) (asked_since self.old) (asked_since self.new)) }
-        ensures asked_failed { OnErr result (AsksOneMore (moment self.old) (Write at bytes.now false) (asked_since self.old) (asked_since self.new)) }
+        ensures asked { OnOk result (AsksOneMore (moment self.old) (Write at bytes.now true) (asked_since self.old)
+            (asked_since self.new)) }
+        ensures asked_failed { OnErr result (AsksOneMore (moment self.old) (Write at bytes.now false) (asked_since self.old)
+            (asked_since self.new)) }
         ensures calm { calm self.old → calm self.new }
         ensures calm_ok { calm self.old → IsOk result }
         ensures never_falls { fault_count self.old ≤ fault_count self.new }

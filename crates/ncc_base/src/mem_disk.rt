@@ -1,10 +1,13 @@
 //! A disk in memory, which fails or stops where it is told to, and crashes.
 
-ghost use Rattle.std.specs.Prelude.{◌≡◌, ◌≤◌, ◌<◌, ◌+◌, ◌%◌, ℕ, [], ◌∷◌, ◌++◌, List, length, true, false, is_ok, IsOk, IfOk, OnOk, OnErr, vec_len, vec_capacity, if◌then◌else◌};
+ghost use Rattle.std.specs.Prelude.{◌≡◌, ◌≤◌, ◌<◌, ◌+◌, ◌%◌, ℕ, [], ◌∷◌, ◌++◌, List, length, true, false, is_ok, IsOk, IfOk, OnOk};
+ghost use Rattle.std.specs.Prelude.{OnErr, vec_len, vec_capacity, if◌then◌else◌};
 ghost use Rattle.ncc_base.specs.Faults.{one_more};
 ghost use Rattle.ncc_base.specs.Faults.{Rose};
 ghost use Rattle.ncc_base.specs.Disk.{AsksOneMore, Elapses, Follows, Holds, Only, Stays, Sync, Torn, Write};
-ghost use Rattle.ncc_base.specs.MemDisk.{AskedSince, IsImage, LeftSince, MemState, begun, byte_at, content, course, crashed, did_sync, drawn, drawn_byte, goes, is_in, is_pending, is_written, left_by, next, seeded, writes, wrote};
+ghost use Rattle.ncc_base.specs.MemDisk.{AskedSince, IsImage, LeftSince, MemState, begun, byte_at, content, course, crashed};
+ghost use Rattle.ncc_base.specs.MemDisk.{did_sync, drawn, drawn_byte, goes, is_in, is_pending, is_written, left_by, next, seeded};
+ghost use Rattle.ncc_base.specs.MemDisk.{writes, wrote};
 
 use crate::bytes::Bytes;
 use crate::disk::{Armed, Disk, DiskError};
@@ -44,8 +47,15 @@ pub(crate) struct Range {
 /// A call that was asked. The bytes of all writes stand in one list.
 #[derive(Clone, Copy, Debug, PartialEq, Eq)]
 pub(crate) enum Noted {
-    Write { at: u64, count: u64, ok: bool, made: bool },
-    Sync { ok: bool },
+    Write {
+        at: u64,
+        count: u64,
+        ok: bool,
+        made: bool,
+    },
+    Sync {
+        ok: bool,
+    },
 }
 
 /// A disk in memory. It keeps what it was asked since the start or the last crash, so that a contract can tell each moment
@@ -71,12 +81,14 @@ impl Model for MemDisk {
     ghost Value = { MemState };
 
     ghost view = { λ s. record {
-        device = record { base = s.base.items; past = unfolded s.past.items s.bytes.items; setting = s.setting; faults = s.faults };
-        room_calls = min (vec_capacity s.past - vec_len s.past) (vec_capacity s.ranges - vec_len s.ranges);
-        room_bytes = min (vec_capacity s.bytes - vec_len s.bytes) (min (vec_capacity s.seen - vec_len s.seen) (vec_capacity s.stable - vec_len s.seen))
+      device = record { base = s.base.items; past = unfolded s.past.items s.bytes.items; setting = s.setting; faults = s.faults };
+      room_calls = min (vec_capacity s.past - vec_len s.past) (vec_capacity s.ranges - vec_len s.ranges);
+      room_bytes = min (vec_capacity s.bytes - vec_len s.bytes)
+          (min (vec_capacity s.seen - vec_len s.seen) (vec_capacity s.stable - vec_len s.seen));
     } };
 
-    ghost invariant = { λ s. IsKept s.base.items s.stable.items s.seen.items s.ranges.items s.past.items s.bytes.items × (vec_len s.seen ≤ vec_capacity s.stable) };
+    ghost invariant = { λ s. IsKept s.base.items s.stable.items s.seen.items s.ranges.items s.past.items s.bytes.items
+        × (vec_len s.seen ≤ vec_capacity s.stable) };
 }
 
 // Appends within the room that there is.
@@ -227,7 +239,15 @@ impl MemDisk {
         let course = self.setting.advance();
         let count = bytes.len() as u64;
         append(&mut self.bytes, bytes);
-        note(&mut self.past, Noted::Write { at, count, ok: course.goes(), made: course.writes() });
+        note(
+            &mut self.past,
+            Noted::Write {
+                at,
+                count,
+                ok: course.goes(),
+                made: course.writes(),
+            },
+        );
         match course {
             Course::Goes => {
                 put(&mut self.seen, at as usize, bytes);
@@ -258,7 +278,11 @@ impl MemDisk {
         let ok = self.setting.advance().goes();
         note(&mut self.past, Noted::Sync { ok });
         if ok {
-            settle(&mut self.stable, self.seen.as_slice(), self.ranges.as_slice());
+            settle(
+                &mut self.stable,
+                self.seen.as_slice(),
+                self.ranges.as_slice(),
+            );
             self.ranges.clear();
             return Ok(());
         }
@@ -321,10 +345,15 @@ impl Disk for MemDisk {
         requires room { length bytes.now ≤ self.old.room_bytes }
         ensures written { OnOk result (Unit {0} → Holds (content self.old.device).seen at bytes.now (content self.new.device).seen) }
         ensures torn { Unit {0} → Torn at (length bytes.now) (content self.old.device).seen (content self.new.device).seen }
-        ensures crash { Unit {0} → Follows (Torn at (length bytes.now)) (IsImage (content self.old.device)) (IsImage (content self.new.device)) }
-        ensures time { Unit {0} → Elapses (length self.old.device.past) (length self.new.device.past) (LeftSince self.old.device) (LeftSince self.new.device) (IsImage (content self.new.device)) }
-        ensures asked { OnOk result (AsksOneMore (length self.old.device.past) (Write at bytes.now true) (AskedSince self.old.device) (AskedSince self.new.device)) }
-        ensures asked_failed { OnErr result (AsksOneMore (length self.old.device.past) (Write at bytes.now false) (AskedSince self.old.device) (AskedSince self.new.device)) }
+        ensures crash { Unit {0} →
+            Follows (Torn at (length bytes.now)) (IsImage (content self.old.device)) (IsImage (content self.new.device)) }
+        ensures time { Unit {0} →
+            Elapses (length self.old.device.past) (length self.new.device.past) (LeftSince self.old.device)
+            (LeftSince self.new.device) (IsImage (content self.new.device)) }
+        ensures asked { OnOk result (AsksOneMore (length self.old.device.past) (Write at bytes.now true)
+            (AskedSince self.old.device) (AskedSince self.new.device)) }
+        ensures asked_failed { OnErr result (AsksOneMore (length self.old.device.past) (Write at bytes.now false)
+            (AskedSince self.old.device) (AskedSince self.new.device)) }
         ensures calm { self.old.device.setting ≡ Setting.Sound → self.new.device.setting ≡ Setting.Sound }
         ensures calm_ok { self.old.device.setting ≡ Setting.Sound → IsOk result }
         ensures never_falls { self.old.device.faults ≤ self.new.device.faults }
@@ -342,10 +371,16 @@ impl Disk for MemDisk {
         ensures durable { OnOk result (Unit {0} → Only (content self.old.device).seen (IsImage (content self.new.device))) }
         ensures seen { Unit {0} → (content self.new.device).seen ≡ (content self.old.device).seen }
         ensures no_more { Unit {0} → (c : List ℕ) → IsImage (content self.new.device) c → IsImage (content self.old.device) c }
-        ensures same { OnErr result (Unit {0} → Stays (content self.old.device).seen (content self.new.device).seen (IsImage (content self.old.device)) (IsImage (content self.new.device))) }
-        ensures time { Unit {0} → Elapses (length self.old.device.past) (length self.new.device.past) (LeftSince self.old.device) (LeftSince self.new.device) (IsImage (content self.new.device)) }
-        ensures asked { OnOk result (AsksOneMore (length self.old.device.past) (Sync true) (AskedSince self.old.device) (AskedSince self.new.device)) }
-        ensures asked_failed { OnErr result (AsksOneMore (length self.old.device.past) (Sync false) (AskedSince self.old.device) (AskedSince self.new.device)) }
+        ensures same { OnErr result (Unit {0} →
+            Stays (content self.old.device).seen (content self.new.device).seen (IsImage (content self.old.device))
+            (IsImage (content self.new.device))) }
+        ensures time { Unit {0} →
+            Elapses (length self.old.device.past) (length self.new.device.past) (LeftSince self.old.device)
+            (LeftSince self.new.device) (IsImage (content self.new.device)) }
+        ensures asked { OnOk result (AsksOneMore (length self.old.device.past) (Sync true) (AskedSince self.old.device)
+            (AskedSince self.new.device)) }
+        ensures asked_failed { OnErr result (AsksOneMore (length self.old.device.past) (Sync false) (AskedSince self.old.device)
+            (AskedSince self.new.device)) }
         ensures calm { self.old.device.setting ≡ Setting.Sound → self.new.device.setting ≡ Setting.Sound }
         ensures calm_ok { self.old.device.setting ≡ Setting.Sound → IsOk result }
         ensures never_falls { self.old.device.faults ≤ self.new.device.faults }

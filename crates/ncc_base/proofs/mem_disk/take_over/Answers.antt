@@ -11,5 +11,7 @@ returns c p =
     let one : a + n - a ≡ n = omega arith in
     let ys = c.copy_from_slice.new.self in
     let is : ys ≡ take n (drop a c.args.from.now) = c.copy_from_slice.ensures.after ∙ ap (λ (m : ℕ). take m (drop a c.args.from.now)) one in
-    ap (λ (l : List ℕ). byte_at l p) (part_is a (a + n - a) c.args.to.now ys (one ∙ sym (ap (λ (l : List ℕ). length l) is ∙ length-take-le n (drop a c.args.from.now) (omega (arith, c.min-count.ensures, length-drop a c.args.from.now)))))
+    ap (λ (l : List ℕ). byte_at l p) (part_is a (a + n - a) c.args.to.now ys (one
+    ∙ sym (ap (λ (l : List ℕ). length l) is
+    ∙ length-take-le n (drop a c.args.from.now) (omega (arith, c.min-count.ensures, length-drop a c.args.from.now)))))
     ∙ taken_over c.args.range.now a n c.args.to.now c.args.from.now ys c.requires c.min-first.ensures c.min-count.ensures is p
