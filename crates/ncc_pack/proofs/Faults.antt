@@ -85,13 +85,16 @@ grouped a b c d = ap (λ (z : List ℕ). z ++ d) (append_assoc a b c) ∙ append
 pub goes_map : {A B : Type 0} (R : A → List ℕ → Type 0) (S : B → List ℕ → Type 0) (front : List ℕ) → ((z : List ℕ) → Open R z → Open S (front ++ z))
     → (err : PackError) (z : List ℕ) → GoesOn R err z → GoesOn S err (front ++ z)
 goes_map R S front m err z (inl o) = inl (m z o)
-goes_map R S front m err z (inr k) = let c = k.1 in inr (k.0, record {
-  before = front ++ c.before;
-  cut = c.cut;
-  is = ap (λ (q : List ℕ). front ++ q) c.is ∙ sym (append_assoc front c.before c.cut);
-  ends = c.ends;
-  other = (c.other.0, c.other.1, c.other.2, subst (Open S) (sym (append_assoc front c.before c.other.1)) (m (c.before ++ c.other.1) c.other.3));
-})
+goes_map R S front m err z (inr k) = let c = k.1 in inr (
+  k.0,
+  record {
+    before = front ++ c.before;
+    cut = c.cut;
+    is = ap (λ (q : List ℕ). front ++ q) c.is ∙ sym (append_assoc front c.before c.cut);
+    ends = c.ends;
+    other = (c.other.0, c.other.1, c.other.2, subst (Open S) (sym (append_assoc front c.before c.other.1)) (m (c.before ++ c.other.1) c.other.3));
+  },
+)
 
 -- ---- a fault of a part is one of the whole
 

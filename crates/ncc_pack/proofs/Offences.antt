@@ -163,14 +163,17 @@ stands_in total b err fits e hard le =
     let f = finds_value 32 total b err fits e in
     let size = length-append f.before (f.offence ++ f.after) in
     let long = ap length f.parts in
-    let there : total - length (f.offence ++ f.after) ≡ (total - length b) + length f.before = omega arith in
-    (length f.before, placed_some err _ hard f.place ∙ ap (λ (i : ℕ). some_at i) there, record {
-      before = f.before;
-      offence = f.offence;
-      after = f.after;
-      parts = f.parts;
-      place = refl;
-      goes_on = goes err f.before f.goes_on;
-      ends = never_begins (f.before ++ f.offence) (f.never hard);
-      offends = shaped err f.offence hard f.shape;
-    })
+    let there : total - length (f.offence ++ f.after) ≡ (total - length b) + length f.before = omega arith in (
+      length f.before,
+      placed_some err _ hard f.place ∙ ap (λ (i : ℕ). some_at i) there,
+      record {
+        before = f.before;
+        offence = f.offence;
+        after = f.after;
+        parts = f.parts;
+        place = refl;
+        goes_on = goes err f.before f.goes_on;
+        ends = never_begins (f.before ++ f.offence) (f.never hard);
+        offends = shaped err f.offence hard f.shape;
+      },
+    )

@@ -241,6 +241,7 @@ module _ {A : Type 0} (G : PackError → List ℕ → Type 0) (h : Reader A) (K 
     where
       at : ℕ
       at = total - length (m ∷ bytes)
+
       by : (size_at (total - length (m ∷ bytes)) size bytes ≡ Err err) ⊎ ((n : ℕ × List ℕ) × (size_at (total - length (m ∷ bytes)) size bytes ≡ Ok n) × (K n.0 total n.1 ≡ Err err)) → Fault G h total (m ∷ bytes) err
       by (inl q) = stopped total bytes err (hd.stop (total - length (m ∷ bytes)) bytes err fits q)
       by (inr r) =
@@ -316,7 +317,6 @@ renamed n total z err d e f = subst (λ (k : PackError). Fault (TextGoes n) (tex
 placed : (a b total : ℕ) → a ≡ b → BadUtf8 (total - a) ≡ BadUtf8 (total - b)
 placed a b total e = ap (λ (k : ℕ). BadUtf8 (total - k)) e
 
-
 module _ (n total : ℕ) (z : List ℕ) where
   whole_bad : n ≤ length z → (utf8_valid_len (take n z) ≡ n → ⊥) → Fault (TextGoes n) (text_reader n) total z (BadUtf8 (total - (length z - utf8_valid_len (take n z))))
   whole_bad le bad =
@@ -331,11 +331,11 @@ module _ (n total : ℕ) (z : List ℕ) where
       renamed n total z _ _ (placed _ _ total (sym size))
       (bad_fault n total z (take good t) (drop good t) (drop n z) parts (well_front t) (omega (arith, length-take good t)) (omega (arith, length-drop good t))
       (λ all c y o.
-          let ok = text_ok all n ((take good t ++ drop good t) ++ c) y o in
-          let whole : take n ((take good t ++ drop good t) ++ c) ≡ t = ap (λ (q : List ℕ). take n (q ++ c)) (take-append-drop good t) ∙ take_at t c n (omega arith) in
-          let u : IsUtf8 t = subst IsUtf8 whole ok.1 in
-          let same = utf8_valid_len-IsUtf8 t u in
-          differ (omega arith)))
+      let ok = text_ok all n ((take good t ++ drop good t) ++ c) y o in
+      let whole : take n ((take good t ++ drop good t) ++ c) ≡ t = ap (λ (q : List ℕ). take n (q ++ c)) (take-append-drop good t) ∙ take_at t c n (omega arith) in
+      let u : IsUtf8 t = subst IsUtf8 whole ok.1 in
+      let same = utf8_valid_len-IsUtf8 t u in
+      differ (omega arith)))
 
   -- the bytes end too early: no text of n bytes begins with them
   cut_bad : length z < n → ((d : List ℕ) → IsUtf8 (z ++ d) → length (z ++ d) ≡ n → ⊥) → 0 < length (drop (utf8_valid_len z) z) → Fault (TextGoes n) (text_reader n) total z (BadUtf8 (total - (length z - utf8_valid_len z)))
@@ -348,14 +348,14 @@ module _ (n total : ℕ) (z : List ℕ) where
       renamed n total z _ _ (placed _ _ total (sym size))
       (bad_fault n total z (take good z) rest [] parts (well_front z) (omega (arith, length-take good z)) some
       (λ all c y o.
-          let ok = text_ok all n ((take good z ++ rest) ++ c) y o in
-          let joined : (take good z ++ rest) ++ c ≡ z ++ c = ap (λ (q : List ℕ). q ++ c) (take-append-drop good z) in
-          let u : IsUtf8 (take n (z ++ c)) = subst (λ (q : List ℕ). IsUtf8 (take n q)) joined ok.1 in
-          let le : n ≤ length (z ++ c) = subst (λ (q : List ℕ). n ≤ length q) joined ok.0 in
-          let d = drop (length z) (take n (z ++ c)) in
-          let front : take (length z) (take n (z ++ c)) ≡ z = front_of c in
-          let all_of : z ++ d ≡ take n (z ++ c) = ap (λ (q : List ℕ). q ++ d) (sym front) ∙ take-append-drop (length z) (take n (z ++ c)) in
-          bad d (subst IsUtf8 (sym all_of) u) (ap length all_of ∙ omega (arith, length-take n (z ++ c)))))
+      let ok = text_ok all n ((take good z ++ rest) ++ c) y o in
+      let joined : (take good z ++ rest) ++ c ≡ z ++ c = ap (λ (q : List ℕ). q ++ c) (take-append-drop good z) in
+      let u : IsUtf8 (take n (z ++ c)) = subst (λ (q : List ℕ). IsUtf8 (take n q)) joined ok.1 in
+      let le : n ≤ length (z ++ c) = subst (λ (q : List ℕ). n ≤ length q) joined ok.0 in
+      let d = drop (length z) (take n (z ++ c)) in
+      let front : take (length z) (take n (z ++ c)) ≡ z = front_of c in
+      let all_of : z ++ d ≡ take n (z ++ c) = ap (λ (q : List ℕ). q ++ d) (sym front) ∙ take-append-drop (length z) (take n (z ++ c)) in
+      bad d (subst IsUtf8 (sym all_of) u) (ap length all_of ∙ omega (arith, length-take n (z ++ c)))))
     where
       front_of : (c : List ℕ) → take (length z) (take n (z ++ c)) ≡ z
       front_of c = take_less (length z) n (z ++ c) (omega arith) ∙ take_at z c (length z) refl
@@ -428,6 +428,7 @@ text_fault n total z err e = by (nat_lt (length z) n) refl e
   where
     good : ℕ
     good = utf8_valid_len (take n z)
+
     by : (b : Bool) → nat_lt (length z) n ≡ b → cond {A = Read (List ℕ)} b (failed (cut_text total n z)) (cond (eqb (utf8_valid_len (take n z)) n) (Ok (take n z, drop n z)) (Err (BadUtf8 (total - (length z - utf8_valid_len (take n z)))))) ≡ Err err
         → Fault (TextGoes n) (text_reader n) total z err
     by true b o =
