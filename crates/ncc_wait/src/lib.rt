@@ -3,8 +3,6 @@
 
 mod outcome_at;
 mod outcomes;
-#[cfg(test)]
-mod tests;
 
 pub use outcome_at::outcome;
 pub use outcomes::Outcome;
