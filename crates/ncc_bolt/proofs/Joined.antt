@@ -49,7 +49,7 @@ three_fields : (k l m : Kind) (x : Held k) (y : Held l) (z : Held m) (a b c : Li
 three_fields k l m x y z a b c s t u = (a, b ++ c, s, (b, c, t, one_field m z c u, refl), append_assoc a b c)
 
 -- a message with bytes behind it: they are refused where they begin
-request_before : (m : Request) (b rest : List ℕ) → SpellsRequest m b → request_at (b ++ rest) ≡ ended (length (b ++ rest)) m rest
+pub request_before : (m : Request) (b rest : List ℕ) → SpellsRequest m b → request_at (b ++ rest) ≡ ended (length (b ++ rest)) m rest
 unfolding head_at
 request_before m b rest (hello x e s) = row_before (with_dictionary 0x01 (λ y. r.Hello y)) 0xB1 0x01 (x, tt) e rest (one_field dictionary x e s)
 request_before m b rest goodbye = row_before (bare 0x02 r.Goodbye) 0xB0 0x02 tt [] rest refl
@@ -62,7 +62,7 @@ request_before m b rest (discard x e s) = row_before (with_dictionary 0x2F (λ y
 request_before m b rest (pull x e s) = row_before (with_dictionary 0x3F (λ y. r.Pull y)) 0xB1 0x3F (x, tt) e rest (one_field dictionary x e s)
 request_before m b rest (route routing bookmarks extra g k e s t u) = row_before route_row 0xB3 0x66 (routing, (bookmarks, (extra, tt))) (g ++ k ++ e) rest (three_fields dictionary list dictionary routing bookmarks extra g k e s t u)
 
-response_before : (m : Response) (b rest : List ℕ) → SpellsResponse m b → response_at (b ++ rest) ≡ ended (length (b ++ rest)) m rest
+pub response_before : (m : Response) (b rest : List ℕ) → SpellsResponse m b → response_at (b ++ rest) ≡ ended (length (b ++ rest)) m rest
 unfolding head_at
 response_before m b rest (success x e s) = row_before (with_dictionary 0x70 (λ y. answer.Success y)) 0xB1 0x70 (x, tt) e rest (one_field dictionary x e s)
 response_before m b rest (row xs e s) = row_before (with_list 0x71 (λ y. answer.Row y)) 0xB1 0x71 (xs, tt) e rest (one_field list xs e s)
@@ -108,10 +108,10 @@ one_response m n a b r s p q w =
 -- ---- what is read is spelled so
 
 -- the row that a message was read by
-abbrev RowFound : {M : Type 0} → Row M → ℕ → ℕ → M → List ℕ → Type 0
+abbrev pub RowFound : {M : Type 0} → Row M → ℕ → ℕ → M → List ℕ → Type 0
 RowFound w tag n m b = (fs : Fields w.kinds) × (w.tag ≡ tag) × (length w.kinds ≡ n) × SpellsFields w.kinds fs b × (w.make fs ≡ m)
 
-abbrev Found : {M : Type 0} → List (Row M) → ℕ → ℕ → M → List ℕ → Type 0
+abbrev pub Found : {M : Type 0} → List (Row M) → ℕ → ℕ → M → List ℕ → Type 0
 Found [] tag n m b = ⊥
 Found (w ∷ ws) tag n m b = RowFound w tag n m b ⊎ Found ws tag n m b
 
@@ -122,7 +122,7 @@ ended_ok total x (b ∷ bytes) y e = absurd cc
 abbrev fine : Result (Unit {0}) MessageError
 fine = Ok tt
 
-counted_ok : (tag n want : ℕ) (b : Bool) → eqb n want ≡ b → cond b fine (Err (WrongFields tag n)) ≡ fine → want ≡ n
+pub counted_ok : (tag n want : ℕ) (b : Bool) → eqb n want ≡ b → cond b fine (Err (WrongFields tag n)) ≡ fine → want ≡ n
 counted_ok tag n want true is e = grind arith
 counted_ok tag n want false is e = absurd cc
 
@@ -144,7 +144,7 @@ table_taken (w ∷ ws) tag n bytes m fits e =
     (λ is h. inl (row_taken w tag n bytes m (grind arith) fits h)) (λ is h. inr (table_taken ws tag n bytes m fits h)) e
 
 -- the marker and the tag
-head_taken : (bytes : List ℕ) (n tag : ℕ) → head_at bytes ≡ Ok (n, tag) → bytes ≡ (0xB0 + n) ∷ tag ∷ drop 2 bytes
+pub head_taken : (bytes : List ℕ) (n tag : ℕ) → head_at bytes ≡ Ok (n, tag) → bytes ≡ (0xB0 + n) ∷ tag ∷ drop 2 bytes
 unfolding head_at
 head_taken [] n tag e = absurd cc
 head_taken (a ∷ []) n tag e = test (λ (z : Result (ℕ × ℕ) MessageError). z ≡ Ok (n, tag) → a ∷ [] ≡ (0xB0 + n) ∷ tag ∷ []) (nat_lt a 0xB0 || nat_lt 0xBF a) (Err (Pack (p.BadMarker 0))) (Err (Pack p.Short)) (λ is h. absurd cc) (λ is h. absurd cc) e
@@ -169,7 +169,7 @@ the_fields : (k l m : Kind) (fs : Fields (k ∷ l ∷ m ∷ [])) (b : List ℕ) 
 the_fields k l m fs b (x, more, s, (y, last, t, u, rest), parts) =
     (x, y, last, s, t, the_field m fs.1.1 last u, parts ∙ ap (λ (z : List ℕ). x ++ z) rest ∙ sym (append_assoc x y last))
 
-request_found : (n tag : ℕ) (m : Request) (b : List ℕ) → Found requests tag n m b → SpellsRequest m ((0xB0 + n) ∷ tag ∷ b)
+pub request_found : (n tag : ℕ) (m : Request) (b : List ℕ) → Found requests tag n m b → SpellsRequest m ((0xB0 + n) ∷ tag ∷ b)
 request_found n tag m b (inl (fs, t, k, s, e)) = by_row SpellsRequest m _ n 1 tag _ b t k e (hello fs.0 b (the_field dictionary fs b s))
 request_found n tag m b (inr (inl (fs, t, k, s, e))) = by_row SpellsRequest m _ n 0 tag _ b t k e (rw s goodbye)
 request_found n tag m b (inr (inr (inl (fs, t, k, s, e)))) = by_row SpellsRequest m _ n 0 tag _ b t k e (rw s reset)
@@ -182,7 +182,7 @@ request_found n tag m b (inr (inr (inr (inr (inr (inr (inr (inr (inl (fs, t, k, 
 request_found n tag m b (inr (inr (inr (inr (inr (inr (inr (inr (inr (inl (fs, t, k, s, e))))))))))) = by_row SpellsRequest m _ n 3 tag _ b t k e (let f = the_fields dictionary list dictionary fs b s in rw f.6 (route fs.0 fs.1.0 fs.1.1.0 f.0 f.1 f.2 f.3 f.4 f.5))
 request_found n tag m b (inr (inr (inr (inr (inr (inr (inr (inr (inr (inr none)))))))))) = absurd none
 
-response_found : (n tag : ℕ) (m : Response) (b : List ℕ) → Found responses tag n m b → SpellsResponse m ((0xB0 + n) ∷ tag ∷ b)
+pub response_found : (n tag : ℕ) (m : Response) (b : List ℕ) → Found responses tag n m b → SpellsResponse m ((0xB0 + n) ∷ tag ∷ b)
 response_found n tag m b (inl (fs, t, k, s, e)) = by_row SpellsResponse m _ n 1 tag _ b t k e (success fs.0 b (the_field dictionary fs b s))
 response_found n tag m b (inr (inl (fs, t, k, s, e))) = by_row SpellsResponse m _ n 1 tag _ b t k e (row fs.0 b (the_field list fs b s))
 response_found n tag m b (inr (inr (inl (fs, t, k, s, e)))) = by_row SpellsResponse m _ n 0 tag _ b t k e (rw s ignored)

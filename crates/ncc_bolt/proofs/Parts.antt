@@ -1,6 +1,6 @@
 -- Fields that are spelled are read, whatever follows, and fields that are read are spelled so.
-use Rattle.std.proofs.Common.{◌≡◌, ℕ, ◌+◌, List, [], ◌∷◌, ◌++◌, length, drop, Result, Ok, Err, refl, sym, ap, ◌∙◌, append_assoc, subst, arith}
-use Rattle.std.proofs.lemmas.List.{append-nil}
+use Rattle.std.proofs.Common.{◌≡◌, ℕ, ◌+◌, ◌-◌, ◌≤◌, List, [], ◌∷◌, ◌++◌, length, drop, Result, Ok, Err, refl, sym, ap, ◌∙◌, append_assoc, subst, arith}
+use Rattle.std.proofs.lemmas.List.{append-nil, length-drop}
 use Rattle.ncc_pack.specs.declared.value.Value.{Value, out-Value, roll-Value, roll-out-Value, out-roll-Value}
 use Rattle.ncc_pack.specs.declared.value.Value.TheVariants as v
 use Rattle.ncc_pack.specs.declared.value.Value.TheOpen.{Value-F}
@@ -34,6 +34,10 @@ as_message_ok : {A : Type 0} (r : Result A PackError) (y : A) → as_message r �
 as_message_ok (Ok x) y e = ap (λ (z : _). Ok z) (ok_is x y e)
 as_message_ok (Err d) y e = absurd cc
 
+-- bytes that are left begin at the length of all less that of these
+pub place_of_rest : (at : ℕ) (bytes : List ℕ) → at ≤ length bytes → length bytes - length (drop at bytes) ≡ at
+place_of_rest at bytes le = omega (arith, length-drop at bytes)
+
 -- ---- the kind of a value
 
 held_again : (k : Kind) (e : MessageError) (h : Held k) → held k e (value k h) ≡ Ok h
@@ -50,18 +54,18 @@ layer_taken text e (Value-F.Text t) h is = v.rolls-Text t ∙ ap (λ (z : Held t
 layer_taken list e (Value-F.List xs) h is = v.rolls-List xs ∙ ap (λ (z : Held list). v.List z) (ok_is xs h is)
 layer_taken k e l h is = absurd cc
 
-held_taken : (k : Kind) (e : MessageError) (x : Value) (h : Held k) → held k e x ≡ Ok h → x ≡ value k h
+pub held_taken : (k : Kind) (e : MessageError) (x : Value) (h : Held k) → held k e x ≡ Ok h → x ≡ value k h
 held_taken k e x h is = sym (roll-out-Value x) ∙ layer_taken k e (out-Value x) h is
 
 -- ---- a field
 
-spelled_again : (total : ℕ) (x : Value) (b rest : List ℕ) → spells x b → spelled_at total (b ++ rest) ≡ Ok (x, rest)
+pub spelled_again : (total : ℕ) (x : Value) (b rest : List ℕ) → spells x b → spelled_at total (b ++ rest) ≡ Ok (x, rest)
 unfolding spelled_at
 spelled_again total x b rest s = ap as_message (value_again total max_depth x b rest s)
 
 pub field_again : (k : Kind) (total tag number : ℕ) (h : Held k) (b rest : List ℕ) → spells (value k h) b → field_at k total tag number (b ++ rest) ≡ Ok (h, rest)
 unfolding field_at
-field_again k total tag number h b rest s = rw (spelled_again total (value k h) b rest s, held_again k (WrongKind tag number) h) refl
+field_again k total tag number h b rest s = rw (spelled_again total (value k h) b rest s, held_again k (WrongKind tag number (total - length (b ++ rest))) h) refl
 
 abbrev Spelled : Value → List ℕ → Type 0
 Spelled x b = spells x b
@@ -74,7 +78,7 @@ field_taken k total tag number bytes h rest fits e =
     let two = bind_ok _ _ (h, rest) one.2 in
     let t = value_taken total max_depth bytes one.0 fits (as_message_ok _ one.0 one.1) in
     let same = ok_is (two.0, one.0.1) (h, rest) two.2 in
-    let is : one.0.0 ≡ value k two.0 = held_taken k (WrongKind tag number) one.0.0 two.0 two.1 in
+    let is : one.0.0 ≡ value k two.0 = held_taken k (WrongKind tag number (total - length bytes)) one.0.0 two.0 two.1 in
     subst (λ (p : Held k × List ℕ). Taken Spelled bytes (value k p.0) p.1) same (subst (λ (x : Value). Taken Spelled bytes x one.0.1) is t)
 
 -- ---- fields

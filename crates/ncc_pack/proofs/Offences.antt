@@ -6,11 +6,11 @@ use Rattle.ncc_pack.specs.declared.error.PackError.{PackError}
 use Rattle.ncc_pack.specs.declared.error.PackError.TheVariants.{Short, Float, BadMarker, BadUtf8, RepeatedKey, KeyNotText, TooDeep, TooLong, Memory}
 use Rattle.ncc_pack.specs.Reading.{Read, value_at, read_value}
 use Rattle.ncc_pack.specs.Spells.{spells}
-use Rattle.ncc_pack.specs.Offence.{AreBytes, BeginsValue, MayBegin, EndsInKey, place_of, MayGoOn, Offends, RefusedAt, StandsAt}
+use Rattle.ncc_pack.specs.Offence.{AreBytes, BeginsValue, MayBegin, EndsInKey, place_of, MayGoOn, TakesLetter, Offends, RefusedAt, StandsAt}
 use Rattle.ncc_pack.proofs.Fields.{IsBytes}
 use Rattle.ncc_pack.proofs.Taken.{value_taken}
 use Rattle.ncc_pack.proofs.Spelled.{value_again}
-use Rattle.ncc_pack.proofs.Faults.{Open, CutKey, InText, IsHard, PlacedAt, Shaped, GoesOn, NeverOk, Fault}
+use Rattle.ncc_pack.proofs.Faults.{Open, CutKey, InText, IsHard, PlacedAt, Shaped, GoesOn, NeverOk, Fault, IsIll, letter}
 use Rattle.ncc_pack.proofs.Refusing.{value_reader, finds_value}
 
 -- ---- what goes on
@@ -34,6 +34,10 @@ from_cut _ z i k = absurd i
 goes : (err : PackError) (z : List ℕ) → GoesOn spells err z → MayGoOn err z
 goes err z (inl o) = from_open err z (may_begin z o)
 goes err z (inr k) = from_cut err z k.0 (in_key z k.1)
+
+takes_letter : (err : PackError) (z : List ℕ) → (IsIll err → GoesOn spells err (z ++ letter)) → TakesLetter err z
+takes_letter (BadUtf8 at) z h = goes (BadUtf8 at) (z ++ letter) (h tt)
+takes_letter _ z h = tt
 
 never_begins : (b : List ℕ) → NeverOk (value_reader 32) b → MayBegin b → ⊥
 never_begins b never m =
@@ -139,6 +143,7 @@ stands b err at fits (e, p) =
       parts = f.parts;
       place = place;
       goes_on = goes err f.before f.goes_on;
+      letter = takes_letter err f.before f.takes;
       ends = never_begins (f.before ++ f.offence) (f.never hard);
       offends = shaped err f.offence hard f.shape;
     }
@@ -163,14 +168,18 @@ stands_in total b err fits e hard le =
     let f = finds_value 32 total b err fits e in
     let size = length-append f.before (f.offence ++ f.after) in
     let long = ap length f.parts in
-    let there : total - length (f.offence ++ f.after) ≡ (total - length b) + length f.before = omega arith in
-    (length f.before, placed_some err _ hard f.place ∙ ap (λ (i : ℕ). some_at i) there, record {
-      before = f.before;
-      offence = f.offence;
-      after = f.after;
-      parts = f.parts;
-      place = refl;
-      goes_on = goes err f.before f.goes_on;
-      ends = never_begins (f.before ++ f.offence) (f.never hard);
-      offends = shaped err f.offence hard f.shape;
-    })
+    let there : total - length (f.offence ++ f.after) ≡ (total - length b) + length f.before = omega arith in (
+      length f.before,
+      placed_some err _ hard f.place ∙ ap (λ (i : ℕ). some_at i) there,
+      record {
+        before = f.before;
+        offence = f.offence;
+        after = f.after;
+        parts = f.parts;
+        place = refl;
+        goes_on = goes err f.before f.goes_on;
+        letter = takes_letter err f.before f.takes;
+        ends = never_begins (f.before ++ f.offence) (f.never hard);
+        offends = shaped err f.offence hard f.shape;
+      },
+    )

@@ -22,7 +22,7 @@ use Rattle.ncc_pack.proofs.Marks.{WideSays, SizeSays, Says, says}
 use Rattle.ncc_pack.proofs.Fitted.{head_size}
 use Rattle.ncc_pack.proofs.Taken.{IsBytes-rest, id_taken, labels_taken, value_taken}
 use Rattle.ncc_pack.proofs.Spelled.{id_again, labels_again, value_again}
-use Rattle.ncc_pack.proofs.Faults.{Open, IsHard, PlacedAt, Shaped, GoesOn, Reader, Fault, goes_map, passed, short_fault, split}
+use Rattle.ncc_pack.proofs.Faults.{Open, AtMarker, PlacedAt, Shaped, GoesOn, Reader, Fault, goes_map, passed, short_fault, split}
 use Rattle.ncc_pack.proofs.Stops.{kind_heading, bytes_heading, sized_fault, HeldOf, bytes_fill, bytes_fault, TextGoes, text_reader, text_fault}
 use Rattle.ncc_pack.proofs.Stopped.{failed, done, float_is, wrapped, bind_assoc, one_fault, other_fault, no_ok, ItemsOf, items_reader, items_fault, Known, spelled_on, spelled_cut, listed_on, listed_cut, no_items, labels_fault, zero_int, int_fault, id_fault}
 use Rattle.ncc_pack.proofs.Unread.{PairsOf, pairs_reader, pairs_fill, pairs_fault}
@@ -78,7 +78,7 @@ dict_fault d finds total m bytes err size mk sa fits e =
     sized_fault (GoesOn (Spelt (suc d))) (value_reader (suc d)) K m size (IsHead dicts) (kind_heading dicts m size sa) (λ all z. value_dict d all m z size mk) (λ at. inl (null_open (suc d)))
     (λ z more n hd. inl (as_dict d (m ∷ z) (dict_cut d n (m ∷ z) more hd))) (λ n. GoesOn (PairsOf R [] n))
     (λ n front hd all z q fit o. wrapped (GoesOn (PairsOf R [] n)) (pairs_reader (value_reader d) [] n) (λ ps. (v.Dict ps.0, ps.1)) all z q o (λ p.
-        let le = head_size dicts n front hd in pairs_fault (value_reader d) R (known d finds) n all [] z q (omega arith) fit p))
+    let le = head_size dicts n front hd in pairs_fault (value_reader d) R (known d finds) n all [] z q (omega arith) fit p))
     (λ n front hd q z g. goes_map (PairsOf R [] n) (Spelt (suc d)) front (λ u o. as_dict d (front ++ u) (dict_on d n front hd u o)) q z g) total bytes err fits e
 
 props_dict : (d all m : ℕ) (z : List ℕ) (size : Size) → marker m ≡ k.Dict size
@@ -281,7 +281,7 @@ module _ (d total m : ℕ) (bytes : List ℕ) (err : PackError) where
       (λ n front hd q z g. inl (as_text d (front ++ z) (spelled_on n front hd z g.1))) total bytes err fits e
 
   -- a refusal at the marker itself
-  at_marker : (mark : Mark) → marker m ≡ mark → (refused : ℕ → PackError) → ((n : ℕ) → IsHard (refused n)) → ((n : ℕ) → PlacedAt (refused n) n) → ((n : ℕ) → Shaped (refused n) (m ∷ []))
+  at_marker : (mark : Mark) → marker m ≡ mark → (refused : ℕ → PackError) → ((n : ℕ) → AtMarker (refused n)) → ((n : ℕ) → PlacedAt (refused n) n) → ((n : ℕ) → Shaped (refused n) (m ∷ []))
       → ((all : ℕ) (z : List ℕ) → by_mark all (within all d) (all - length (m ∷ z)) mark z ≡ Err (refused (all - length (m ∷ z)))) → value_at total d (m ∷ bytes) ≡ Err err → Stops
   at_marker mark mk refused hard place shape h e =
       let at = total - length (m ∷ bytes) in
@@ -341,6 +341,7 @@ node_fault d finds total m bytes err is fits e = by (split (fields_at total (wit
   where
     first : value_at total (suc (suc d)) (0xB3 ∷ bytes) ≡ Err err
     first = subst (λ (q : ℕ). value_at total (suc (suc d)) (q ∷ bytes) ≡ Err err) is e
+
     by : (fields_at total (within total (suc d)) bytes ≡ Err err) ⊎ ((n : NodeValue × List ℕ) × (fields_at total (within total (suc d)) bytes ≡ Ok n) × (done {A = Value × List ℕ} (v.Node n.0, n.1) ≡ Err err)) → Stops (suc (suc d)) total m bytes err
     by (inl q) =
         passed (GoesOn (NodeOf d)) (GoesOn (Spelt (suc (suc d)))) (fields_reader d) (value_reader (suc (suc d))) total (0xB3 ∷ []) bytes (m ∷ bytes) err (ap (λ (q : ℕ). q ∷ bytes) is)

@@ -104,6 +104,7 @@ three_ok x y z l h s f =
         by : (x < 225) ⊎ (225 ≤ x) → 2048 ≤ (x - 224) * 4096 + (y - 128) * 64 + (z - 128)
         by (inl lt) = let e : x ≡ 0xE0 = omega arith in let t = s.e0 e in omega arith
         by (inr le) = omega arith
+
     three_gap : (x y z : ℕ) → 224 ≤ x → x < 240 → Second x y → Follows z → let c = (x - 224) * 4096 + (y - 128) * 64 + (z - 128) in (c < 55296) ⊎ (57344 ≤ c)
     three_gap x y z l h s f = by (cases_lt x 0xED) (cases_lt x 0xEE)
       where
@@ -121,6 +122,7 @@ four_ok x y z w l h s f g =
     least : (x < 241) ⊎ (241 ≤ x) → 16 ≤ (x - 240) * 64 + (y - 128)
     least (inl lt) = let e : x ≡ 0xF0 = omega arith in let t = s.f0 e in omega arith
     least (inr le) = omega arith
+
     most : (x < 244) ⊎ (244 ≤ x) → (x - 240) * 64 + (y - 128) < 272
     most (inl lt) = let a = s.high in omega arith
     most (inr le) = let e : x ≡ 0xF4 = omega arith in let t = s.f4 e in omega arith
@@ -151,6 +153,7 @@ one_ends x l h = by (cases_lt x 224) (cases_lt x 240)
   where
     s : (y : ℕ) × Second x y
     s = any_second x
+
     by : (x < 224) ⊎ (224 ≤ x) → (x < 240) ⊎ (240 ≤ x) → Ends (x ∷ [])
     by (inl a) _ = (128 ∷ [], two_ok x 128 l a after_128, long x [] 2 (λ _ _. refl) (λ p q. absurd (omega arith)) (λ p. absurd (omega arith)) (omega arith))
     by (inr a) (inl b) = (s.0 ∷ 128 ∷ [], three_ok x s.0 128 a b s.1 after_128, long x [] 3 (λ p q. absurd (omega arith)) (λ _ _. refl) (λ p. absurd (omega arith)) (omega arith))
@@ -265,6 +268,7 @@ widest_lead n x y z w rest r none = by (cases_lt x 240)
   where
     l : 224 ≤ x
     l = wide_lead n x y z w (z ∷ rest) r none
+
     by : (x < 240) ⊎ (240 ≤ x) → 240 ≤ x
     by (inl lt) = absurd (none 3 (omega arith) (omega arith) (three_ok x y z l lt (second_ranged n x y z w r l) (r.third l).1))
     by (inr le) = le

@@ -25,7 +25,7 @@ use Rattle.ncc_pack.proofs.Marks.{Says, says}
 use Rattle.ncc_pack.proofs.Loops.{both}
 use Rattle.ncc_pack.proofs.Taken.{Takes, IsBytes-rest, label_taken}
 use Rattle.ncc_pack.proofs.Spelled.{label_again}
-use Rattle.ncc_pack.proofs.Faults.{Open, InText, IsHard, PlacedAt, Shaped, GoesOn, Reader, Fault, goes_map, passed, short_fault, marker_fault, split}
+use Rattle.ncc_pack.proofs.Faults.{Open, InText, PlacedAt, Shaped, GoesOn, Reader, Fault, goes_map, passed, short_fault, marker_fault, split, AtMarker}
 use Rattle.ncc_pack.proofs.Stops.{kind_heading, number_stop, number_open, sized_fault, TextOf, TextGoes, text_reader, text_fill, text_fault, zeros}
 
 abbrev pub failed : {A : Type 0} → PackError → Result A PackError
@@ -50,7 +50,7 @@ bind_assoc (Err d) f g = refl
 -- ---- markers of another kind
 
 -- a refusal at a marker alone
-pub one_fault : {A : Type 0} (G : PackError → List ℕ → Type 0) (h : Reader A) (total m : ℕ) (bytes : List ℕ) (err : PackError) → IsHard err → PlacedAt err (total - length (m ∷ bytes)) → G err [] → Shaped err (m ∷ [])
+pub one_fault : {A : Type 0} (G : PackError → List ℕ → Type 0) (h : Reader A) (total m : ℕ) (bytes : List ℕ) (err : PackError) → AtMarker err → PlacedAt err (total - length (m ∷ bytes)) → G err [] → Shaped err (m ∷ [])
     → ((all : ℕ) (c : List ℕ) (y : A × List ℕ) → h all (m ∷ c) ≡ Ok y → ⊥) → Fault G h total (m ∷ bytes) err
 one_fault G h total m bytes err hard place goes shape never = marker_fault G h total m [] bytes bytes err refl hard place goes (λ all c y o. never all c y o) shape
 
@@ -90,10 +90,13 @@ other_fault G h total m bytes mark mk err e none never = subst (λ (d : PackErro
   where
     at : ℕ
     at = total - length (m ∷ bytes)
+
     same : failed {A = ℕ} (other_kind (total - length (m ∷ bytes)) mark) ≡ Err err → other_kind (total - length (m ∷ bytes)) mark ≡ err
     same e = cc
+
     bad : Fault G h total (m ∷ bytes) (BadMarker (total - length (m ∷ bytes)))
     bad = one_fault G h total m bytes (BadMarker (total - length (m ∷ bytes))) tt refl (none _) refl never
+
     by : (mark : Mark) → marker m ≡ mark → Fault G h total (m ∷ bytes) (other_kind (total - length (m ∷ bytes)) mark)
     by k.Float is = one_fault G h total m bytes (refusal.Float (total - length (m ∷ bytes))) tt refl (none _) (ap (λ (q : ℕ). q ∷ []) (float_is m is)) never
     by _ is = bad
@@ -149,14 +152,15 @@ module _ {A : Type 0} (one : Reader A) (R : A → List ℕ → Type 0) (known : 
         where
           t : Takes R z r.0
           t = known.taken total z r.0 fits r.1
+
           by2 : (items_at (one total) n r.0.1 ≡ Err err) ⊎ ((x : List A × List ℕ) × (items_at (one total) n r.0.1 ≡ Ok x) × (put r.0.0 x ≡ Err err)) → Fault (GoesOn (ItemsOf R (suc n))) (items_reader one (suc n)) total z err
           by2 (inl q) =
               passed (GoesOn (ItemsOf R n)) (GoesOn (ItemsOf R (suc n))) (items_reader one n) (items_reader one (suc n)) total t.front r.0.1 z err t.parts
               (λ w g. goes_map (ItemsOf R n) (ItemsOf R (suc n)) t.front (λ u o. next_open R r.0.0 t.front t.spells n u o) err w g)
               (λ all w y o.
-                  let F : A × List ℕ → Read (List A) = λ first. items_at (one all) n first.1 >>= put first.0 in
-                  let b = bind_ok (items_at (one all) n w) (put r.0.0) y (sym (ap (λ (q : Read A). q >>= F) (known.again all r.0.0 t.front w t.spells)) ∙ o) in
-                  (b.0, b.1))
+              let F : A × List ℕ → Read (List A) = λ first. items_at (one all) n first.1 >>= put first.0 in
+              let b = bind_ok (items_at (one all) n w) (put r.0.0) y (sym (ap (λ (q : Read A). q >>= F) (known.again all r.0.0 t.front w t.spells)) ∙ o) in
+              (b.0, b.1))
               (rest r.0.1 t.rest_fits q)
           by2 (inr x) = absurd (let no : put r.0.0 x.0 ≡ Err err = x.2 in cc)
 

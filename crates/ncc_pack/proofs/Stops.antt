@@ -18,11 +18,12 @@ use Rattle.ncc_pack.specs.Spells as s
 use Rattle.ncc_pack.proofs.Fields.{IsBytes, bind_ok, ok_is, Wide, wide8, wide16, wide32, number_takes, number_again}
 use Rattle.ncc_pack.proofs.Marks.{WideSays, SizeSays}
 use Rattle.std.proofs.iter.FirstChar.{after_text}
+use Rattle.std.proofs.str.Valid.{of_one}
 use Rattle.ncc_pack.proofs.Texts.{is_whole, no_error}
 use Rattle.ncc_pack.proofs.Taken.{guard_err, guard_then, size_taken, wide_taken, Takes}
 use Rattle.ncc_pack.proofs.Spelled.{four_again}
 use Rattle.ncc_pack.proofs.Sequences.{NoChar, well_front, rest_has_none, may_end, must_end}
-use Rattle.ncc_pack.proofs.Faults.{Open, InText, Reader, NeverOk, Fault, passed, short_fault, marker_fault, split}
+use Rattle.ncc_pack.proofs.Faults.{Open, InText, Reader, NeverOk, Fault, letter, passed, short_fault, marker_fault, split}
 
 -- ---- zeros, with which bytes are filled up
 
@@ -241,6 +242,7 @@ module _ {A : Type 0} (G : PackError → List ℕ → Type 0) (h : Reader A) (K 
     where
       at : ℕ
       at = total - length (m ∷ bytes)
+
       by : (size_at (total - length (m ∷ bytes)) size bytes ≡ Err err) ⊎ ((n : ℕ × List ℕ) × (size_at (total - length (m ∷ bytes)) size bytes ≡ Ok n) × (K n.0 total n.1 ≡ Err err)) → Fault G h total (m ∷ bytes) err
       by (inl q) = stopped total bytes err (hd.stop (total - length (m ∷ bytes)) bytes err fits q)
       by (inr r) =
@@ -294,20 +296,24 @@ text_ok total n z y e =
     let len : length (take n z) ≡ n = omega (arith, length-take n z) in
     (le, is_whole (take n z) (eqb-true good n k.0 ∙ sym len))
 
+letter_well : IsUtf8 letter
+letter_well = of_one letter 0 (omega arith) (omega arith)
+
 -- a text with a fault: its good front, and the rest of its bytes
-bad_fault : (n total : ℕ) (z front bad rest : List ℕ) → z ≡ front ++ (bad ++ rest) → IsUtf8 front → length front ≤ n → 0 < length bad → NeverOk (text_reader n) (front ++ bad)
+bad_fault : (n total : ℕ) (z front bad rest : List ℕ) → z ≡ front ++ (bad ++ rest) → IsUtf8 front → length front < n → 0 < length bad → NoChar bad → NeverOk (text_reader n) (front ++ bad)
     → Fault (TextGoes n) (text_reader n) total z (BadUtf8 (total - length (bad ++ rest)))
-bad_fault n total z front bad rest parts u le some never = record {
+bad_fault n total z front bad rest parts u lt some none never = record {
   before = front;
   offence = bad;
   after = rest;
   parts = parts;
   place = refl;
-  goes_on = (tt, text_fill n front u le);
+  goes_on = (tt, text_fill n front u (omega arith));
   never = λ _. never;
   some = λ _. some;
-  shape = some;
+  shape = (some, none);
   ends = λ e. absurd (let d : BadUtf8 (total - length (bad ++ rest)) ≡ Short = e in cc);
+  takes = λ _. (tt, text_fill n (front ++ letter) (IsUtf8-append front letter u letter_well) (omega (arith, length-append front letter)));
 }
 
 renamed : (n total : ℕ) (z : List ℕ) (err d : PackError) → err ≡ d → Fault (TextGoes n) (text_reader n) total z d → Fault (TextGoes n) (text_reader n) total z err
@@ -315,7 +321,6 @@ renamed n total z err d e f = subst (λ (k : PackError). Fault (TextGoes n) (tex
 
 placed : (a b total : ℕ) → a ≡ b → BadUtf8 (total - a) ≡ BadUtf8 (total - b)
 placed a b total e = ap (λ (k : ℕ). BadUtf8 (total - k)) e
-
 
 module _ (n total : ℕ) (z : List ℕ) where
   whole_bad : n ≤ length z → (utf8_valid_len (take n z) ≡ n → ⊥) → Fault (TextGoes n) (text_reader n) total z (BadUtf8 (total - (length z - utf8_valid_len (take n z))))
@@ -329,13 +334,13 @@ module _ (n total : ℕ) (z : List ℕ) where
       let size : length (drop good t ++ drop n z) ≡ length z - good = omega (arith, length-append (drop good t) (drop n z), length-drop good t, length-drop n z) in
       let parts : z ≡ take good t ++ (drop good t ++ drop n z) = sym (take-append-drop n z) ∙ ap (λ (q : List ℕ). q ++ drop n z) (sym (take-append-drop good t)) ∙ append_assoc (take good t) (drop good t) (drop n z) in
       renamed n total z _ _ (placed _ _ total (sym size))
-      (bad_fault n total z (take good t) (drop good t) (drop n z) parts (well_front t) (omega (arith, length-take good t)) (omega (arith, length-drop good t))
+      (bad_fault n total z (take good t) (drop good t) (drop n z) parts (well_front t) (omega (arith, length-take good t)) (omega (arith, length-drop good t)) (rest_has_none t within)
       (λ all c y o.
-          let ok = text_ok all n ((take good t ++ drop good t) ++ c) y o in
-          let whole : take n ((take good t ++ drop good t) ++ c) ≡ t = ap (λ (q : List ℕ). take n (q ++ c)) (take-append-drop good t) ∙ take_at t c n (omega arith) in
-          let u : IsUtf8 t = subst IsUtf8 whole ok.1 in
-          let same = utf8_valid_len-IsUtf8 t u in
-          differ (omega arith)))
+      let ok = text_ok all n ((take good t ++ drop good t) ++ c) y o in
+      let whole : take n ((take good t ++ drop good t) ++ c) ≡ t = ap (λ (q : List ℕ). take n (q ++ c)) (take-append-drop good t) ∙ take_at t c n (omega arith) in
+      let u : IsUtf8 t = subst IsUtf8 whole ok.1 in
+      let same = utf8_valid_len-IsUtf8 t u in
+      differ (omega arith)))
 
   -- the bytes end too early: no text of n bytes begins with them
   cut_bad : length z < n → ((d : List ℕ) → IsUtf8 (z ++ d) → length (z ++ d) ≡ n → ⊥) → 0 < length (drop (utf8_valid_len z) z) → Fault (TextGoes n) (text_reader n) total z (BadUtf8 (total - (length z - utf8_valid_len z)))
@@ -346,16 +351,16 @@ module _ (n total : ℕ) (z : List ℕ) where
       let size : length (rest ++ []) ≡ length z - good = ap length (append-nil rest) ∙ length-drop good z in
       let parts : z ≡ take good z ++ (rest ++ []) = sym (take-append-drop good z) ∙ ap (λ (q : List ℕ). take good z ++ q) (sym (append-nil rest)) in
       renamed n total z _ _ (placed _ _ total (sym size))
-      (bad_fault n total z (take good z) rest [] parts (well_front z) (omega (arith, length-take good z)) some
+      (bad_fault n total z (take good z) rest [] parts (well_front z) (omega (arith, length-take good z)) some (rest_has_none z within)
       (λ all c y o.
-          let ok = text_ok all n ((take good z ++ rest) ++ c) y o in
-          let joined : (take good z ++ rest) ++ c ≡ z ++ c = ap (λ (q : List ℕ). q ++ c) (take-append-drop good z) in
-          let u : IsUtf8 (take n (z ++ c)) = subst (λ (q : List ℕ). IsUtf8 (take n q)) joined ok.1 in
-          let le : n ≤ length (z ++ c) = subst (λ (q : List ℕ). n ≤ length q) joined ok.0 in
-          let d = drop (length z) (take n (z ++ c)) in
-          let front : take (length z) (take n (z ++ c)) ≡ z = front_of c in
-          let all_of : z ++ d ≡ take n (z ++ c) = ap (λ (q : List ℕ). q ++ d) (sym front) ∙ take-append-drop (length z) (take n (z ++ c)) in
-          bad d (subst IsUtf8 (sym all_of) u) (ap length all_of ∙ omega (arith, length-take n (z ++ c)))))
+      let ok = text_ok all n ((take good z ++ rest) ++ c) y o in
+      let joined : (take good z ++ rest) ++ c ≡ z ++ c = ap (λ (q : List ℕ). q ++ c) (take-append-drop good z) in
+      let u : IsUtf8 (take n (z ++ c)) = subst (λ (q : List ℕ). IsUtf8 (take n q)) joined ok.1 in
+      let le : n ≤ length (z ++ c) = subst (λ (q : List ℕ). n ≤ length q) joined ok.0 in
+      let d = drop (length z) (take n (z ++ c)) in
+      let front : take (length z) (take n (z ++ c)) ≡ z = front_of c in
+      let all_of : z ++ d ≡ take n (z ++ c) = ap (λ (q : List ℕ). q ++ d) (sym front) ∙ take-append-drop (length z) (take n (z ++ c)) in
+      bad d (subst IsUtf8 (sym all_of) u) (ap length all_of ∙ omega (arith, length-take n (z ++ c)))))
     where
       front_of : (c : List ℕ) → take (length z) (take n (z ++ c)) ≡ z
       front_of c = take_less (length z) n (z ++ c) (omega arith) ∙ take_at z c (length z) refl
@@ -428,6 +433,7 @@ text_fault n total z err e = by (nat_lt (length z) n) refl e
   where
     good : ℕ
     good = utf8_valid_len (take n z)
+
     by : (b : Bool) → nat_lt (length z) n ≡ b → cond {A = Read (List ℕ)} b (failed (cut_text total n z)) (cond (eqb (utf8_valid_len (take n z)) n) (Ok (take n z, drop n z)) (Err (BadUtf8 (total - (length z - utf8_valid_len (take n z)))))) ≡ Err err
         → Fault (TextGoes n) (text_reader n) total z err
     by true b o =

@@ -68,13 +68,16 @@ module _ (R : Value → List ℕ → Type 0) (default : Open R []) where
 
   key_goes : (earlier : List (List ℕ)) (n : ℕ) → length earlier + suc n ≤ max_size → (err : PackError) (z : List ℕ) → KeyGoes err z → GoesOn (PairsOf R earlier (suc n)) err z
   key_goes earlier n le err z (inl none) = inl (subst (Open (PairsOf R earlier (suc n))) (sym none) (pairs_fill (suc n) earlier le))
-  key_goes earlier n le err z (inr g) = let f = fresh earlier (omega arith) in inr (g.0, record {
-    before = [];
-    cut = z;
-    is = refl;
-    ends = (g.1.1, g.1.0, g.1.2);
-    other = (f.key, f.spelled, f.spells, key_open earlier n le f.key f.spelled f.spells f.differs);
-  })
+  key_goes earlier n le err z (inr g) = let f = fresh earlier (omega arith) in inr (
+    g.0,
+    record {
+      before = [];
+      cut = z;
+      is = refl;
+      ends = (g.1.1, g.1.0, g.1.2);
+      other = (f.key, f.spelled, f.spells, key_open earlier n le f.key f.spelled f.spells f.differs);
+    },
+  )
 
 text_some : (t b : List ℕ) → SpellsText t b → 0 < length b
 text_some t b sp = let h = head_some (length t) sp.0 sp.1 in omega (arith, ap length sp.3, length-append sp.0 t)
@@ -83,6 +86,7 @@ text_some t b sp = let h = head_some (length t) sp.0 sp.1 in omega (arith, ap le
     wide_some mark n _ (s.one lt) = omega arith
     wide_some mark n _ (s.two lt) = omega arith
     wide_some mark n _ (s.four le) = omega arith
+
     head_some : (n : ℕ) (h : List ℕ) → IsHead texts n h → 0 < length h
     head_some n _ (s.tiny lt) = omega arith
     head_some n _ (s.wide h w) = wide_some 0xD0 n h w
@@ -110,6 +114,7 @@ module _ (one : Reader Value) (R : Value → List ℕ → Type 0) (known : Known
     some = λ _. text_some key.0 t.front t.spells;
     shape = (key.0, t.spells);
     ends = λ d. absurd (let no : RepeatedKey (total - length z) ≡ Short = d in cc);
+    takes = λ ill. absurd ill;
   }
 
   abbrev Finds : ℕ → ℕ → Type 0
@@ -131,6 +136,7 @@ module _ (one : Reader Value) (R : Value → List ℕ → Type 0) (known : Known
         where
           x : Takes R key.1 r.0
           x = known.taken total key.1 r.0 t.rest_fits r.1
+
           by2 : (pairs_at total (one total) (earlier ++ key.0 ∷ []) n r.0.1 ≡ Err err) ⊎ ((p : List (List ℕ × Value) × List ℕ) × (pairs_at total (one total) (earlier ++ key.0 ∷ []) n r.0.1 ≡ Ok p) × (put_pair key.0 r.0.0 p ≡ Err err))
               → Fault (GoesOn (PairsOf R earlier (suc n))) (pairs_reader one earlier (suc n)) total z err
           by2 (inl q) =
@@ -138,12 +144,12 @@ module _ (one : Reader Value) (R : Value → List ℕ → Type 0) (known : Known
               (t.parts ∙ ap (λ (w : List ℕ). t.front ++ w) x.parts ∙ sym (append_assoc t.front x.front r.0.1))
               (λ w g. goes_map (PairsOf R (earlier ++ key.0 ∷ []) n) (PairsOf R earlier (suc n)) (t.front ++ x.front) (λ u o. pair_open R known.default earlier n key.0 t.front t.spells new r.0.0 x.front x.spells u o) err w g)
               (λ all w y o.
-                  let F : Value × List ℕ → Read (List (List ℕ × Value)) = λ a. pairs_at all (one all) (earlier ++ key.0 ∷ []) n a.1 >>= put_pair key.0 a.0 in
-                  let one_step : (one all (x.front ++ w) >>= F) ≡ F (r.0.0, w) = ap (λ (a : Read Value). a >>= F) (known.again all r.0.0 x.front w x.spells) in
-                  let start : pairs_at all (one all) earlier (suc n) ((t.front ++ x.front) ++ w) ≡ behind all earlier n key.0 (x.front ++ w) =
-                  ap (pairs_at all (one all) earlier (suc n)) (append_assoc t.front x.front w) ∙ after_key all earlier n key.0 t.front (x.front ++ w) false t.spells new in
-                  let b = bind_ok (pairs_at all (one all) (earlier ++ key.0 ∷ []) n w) (put_pair key.0 r.0.0) y (sym one_step ∙ sym start ∙ o) in
-                  (b.0, b.1))
+              let F : Value × List ℕ → Read (List (List ℕ × Value)) = λ a. pairs_at all (one all) (earlier ++ key.0 ∷ []) n a.1 >>= put_pair key.0 a.0 in
+              let one_step : (one all (x.front ++ w) >>= F) ≡ F (r.0.0, w) = ap (λ (a : Read Value). a >>= F) (known.again all r.0.0 x.front w x.spells) in
+              let start : pairs_at all (one all) earlier (suc n) ((t.front ++ x.front) ++ w) ≡ behind all earlier n key.0 (x.front ++ w) =
+              ap (pairs_at all (one all) earlier (suc n)) (append_assoc t.front x.front w) ∙ after_key all earlier n key.0 t.front (x.front ++ w) false t.spells new in
+              let b = bind_ok (pairs_at all (one all) (earlier ++ key.0 ∷ []) n w) (put_pair key.0 r.0.0) y (sym one_step ∙ sym start ∙ o) in
+              (b.0, b.1))
               (rest (earlier ++ key.0 ∷ []) r.0.1 err (omega (arith, length-append earlier (key.0 ∷ []))) x.rest_fits q)
           by2 (inr p) = absurd (let no : put_pair key.0 r.0.0 p.0 ≡ Err err = p.2 in cc)
 
@@ -154,6 +160,7 @@ module _ (one : Reader Value) (R : Value → List ℕ → Type 0) (known : Known
     where
       F : List ℕ × List ℕ → Read (List (List ℕ × Value))
       F key = cond (list_any (bytes_eq key.0) earlier) (Err (RepeatedKey (total - length z))) (behind total earlier n key.0 key.1)
+
       by : Finds total n → (key_at total z ≡ Err err) ⊎ ((key : List ℕ × List ℕ) × (key_at total z ≡ Ok key) × (cond (list_any (bytes_eq key.0) earlier) (Err (RepeatedKey (total - length z))) (behind total earlier n key.0 key.1) ≡ Err err))
           → Fault (GoesOn (PairsOf R earlier (suc n))) (pairs_reader one earlier (suc n)) total z err
       by rest (inl q) =
@@ -163,6 +170,7 @@ module _ (one : Reader Value) (R : Value → List ℕ → Type 0) (known : Known
         where
           t : Takes SpellsText z r.0
           t = key_taken total z r.0 fits r.1
+
           with : (b : Bool) → list_any (bytes_eq r.0.0) earlier ≡ b → cond b (failed (RepeatedKey (total - length z))) (behind total earlier n r.0.0 r.0.1) ≡ Err err → Fault (GoesOn (PairsOf R earlier (suc n))) (pairs_reader one earlier (suc n)) total z err
           with true is o = let same : RepeatedKey (total - length z) ≡ err = cc in subst (λ (d : PackError). Fault (GoesOn (PairsOf R earlier (suc n))) (pairs_reader one earlier (suc n)) total z d) same (repeated earlier n le total z r.0 t is)
           with false is o = more_fault n total rest earlier z err le fits r.0 t is o
