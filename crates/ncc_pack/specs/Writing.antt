@@ -1,9 +1,13 @@
--- What writing gives, and what its parts ask.
+-- What writing gives (a spelling, as PackStream version 1, "Representation", has it), and what its parts ask.
 use Rattle.std.specs.Prelude.{◌≡◌, ℕ, List, ◌++◌, map, IsTrue}
 use Rattle.ncc_pack.specs.declared.value.Value.{Value}
 use Rattle.ncc_pack.specs.declared.value.NodeValue.{NodeValue}
 use Rattle.ncc_pack.specs.Spells.{spells, IsHead, lists}
 use Rattle.ncc_pack.specs.Fits.{fit, fit_pair, fits_list, fits_dict, fits_node, fits_within}
+
+-- one list begins another
+abbrev pub Begins : List ℕ → List ℕ → Type 0
+Begins front whole = (more : List ℕ) × (whole ≡ front ++ more)
 
 -- bytes grew by a spelling of a value
 abbrev pub Spelled : Value → List ℕ → List ℕ → Type 0
