@@ -1,7 +1,9 @@
 -- The fault at which reading stops: what stands before it, the bytes at fault, and what follows.
-use Rattle.std.proofs.Common.{◌≡◌, ◌⊎◌, inl, inr, ℕ, ◌-◌, ◌<◌, List, [], ◌∷◌, ◌++◌, length, Result, Ok, Err, refl, sym, ap, subst, ◌∙◌, append_assoc, append-nil, arith}
+use Rattle.std.proofs.Common.{◌≡◌, ◌⊎◌, inl, inr, ℕ, ◌-◌, ◌<◌, List, [], ◌∷◌, ◌++◌, length, Result, Ok, Err, refl, sym, ap, subst}
+use Rattle.std.proofs.Common.{◌∙◌, append_assoc, append-nil, arith}
 use Rattle.ncc_pack.specs.declared.error.PackError.{PackError}
-use Rattle.ncc_pack.specs.declared.error.PackError.TheVariants.{Short, Float, BadMarker, BadUtf8, RepeatedKey, KeyNotText, TooDeep, TooLong, Memory}
+use Rattle.ncc_pack.specs.declared.error.PackError.TheVariants.{Short, Float, BadMarker, BadUtf8, RepeatedKey, KeyNotText, TooDeep}
+use Rattle.ncc_pack.specs.declared.error.PackError.TheVariants.{TooLong, Memory}
 use Rattle.ncc_pack.specs.Reading.{◌>>=◌, Read}
 use Rattle.ncc_pack.specs.Spells.{SpellsText}
 use Rattle.ncc_pack.specs.Offence.{Offends}
@@ -109,7 +111,8 @@ grouped a b c d = ap (λ (z : List ℕ). z ++ d) (append_assoc a b c) ∙ append
 
 -- ---- what goes on goes on in what holds it
 
-pub goes_map : {A B : Type 0} (R : A → List ℕ → Type 0) (S : B → List ℕ → Type 0) (front : List ℕ) → ((z : List ℕ) → Open R z → Open S (front ++ z))
+pub goes_map : {A B : Type 0} (R : A → List ℕ → Type 0) (S : B → List ℕ → Type 0) (front : List ℕ) →
+    ((z : List ℕ) → Open R z → Open S (front ++ z))
     → (err : PackError) (z : List ℕ) → GoesOn R err z → GoesOn S err (front ++ z)
 goes_map R S front m err z (inl o) = inl (m z o)
 goes_map R S front m err z (inr k) = let c = k.1 in inr (
@@ -119,14 +122,21 @@ goes_map R S front m err z (inr k) = let c = k.1 in inr (
     cut = c.cut;
     is = ap (λ (q : List ℕ). front ++ q) c.is ∙ sym (append_assoc front c.before c.cut);
     ends = c.ends;
-    other = (c.other.0, c.other.1, c.other.2, subst (Open S) (sym (append_assoc front c.before c.other.1)) (m (c.before ++ c.other.1) c.other.3));
+    other = (
+      c.other.0,
+      c.other.1,
+      c.other.2,
+      subst (Open S) (sym (append_assoc front c.before c.other.1)) (m (c.before ++ c.other.1) c.other.3),
+    );
   },
 )
 
 -- ---- a fault of a part is one of the whole
 
-pub passed : {A B : Type 0} (G H : PackError → List ℕ → Type 0) (f : Reader A) (h : Reader B) (total : ℕ) (front rest b : List ℕ) (err : PackError) → b ≡ front ++ rest
-    → ((z : List ℕ) → G err z → H err (front ++ z)) → ((all : ℕ) (z : List ℕ) (y : B × List ℕ) → h all (front ++ z) ≡ Ok y → (x : A × List ℕ) × (f all z ≡ Ok x))
+pub passed : {A B : Type 0} (G H : PackError → List ℕ →
+    Type 0) (f : Reader A) (h : Reader B) (total : ℕ) (front rest b : List ℕ) (err : PackError) → b ≡ front ++ rest
+    → ((z : List ℕ) → G err z → H err (front ++ z)) → ((all : ℕ) (z : List ℕ) (y : B × List ℕ) → h all (front ++ z) ≡ Ok y →
+    (x : A × List ℕ) × (f all z ≡ Ok x))
     → Fault G f total rest err → Fault H h total b err
 passed G H f h total front rest b err parts m step fault = record {
   before = front ++ fault.before;
@@ -146,7 +156,8 @@ passed G H f h total front rest b err parts m step fault = record {
 }
 
 -- bytes that end too early
-pub short_fault : {A : Type 0} (G : PackError → List ℕ → Type 0) (f : Reader A) (total : ℕ) (b : List ℕ) → G Short b → Fault G f total b Short
+pub short_fault : {A : Type 0} (G : PackError → List ℕ → Type 0) (f : Reader A) (total : ℕ) (b : List ℕ) → G Short b →
+    Fault G f total b Short
 short_fault G f total b goes = record {
   before = b;
   offence = [];
@@ -162,7 +173,8 @@ short_fault G f total b goes = record {
 }
 
 -- a fault at a marker
-pub marker_fault : {A : Type 0} (G : PackError → List ℕ → Type 0) (f : Reader A) (total m : ℕ) (more rest bytes : List ℕ) (err : PackError) → bytes ≡ more ++ rest → AtMarker err
+pub marker_fault : {A : Type 0} (G : PackError → List ℕ →
+    Type 0) (f : Reader A) (total m : ℕ) (more rest bytes : List ℕ) (err : PackError) → bytes ≡ more ++ rest → AtMarker err
     → PlacedAt err (total - length (m ∷ bytes)) → G err [] → NeverOk f (m ∷ more) → Shaped err (m ∷ more) → Fault G f total (m ∷ bytes) err
 marker_fault G f total m more rest bytes err parts hard place goes never shape = record {
   before = [];
