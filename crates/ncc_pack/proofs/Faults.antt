@@ -1,7 +1,9 @@
 -- The fault at which reading stops: what stands before it, the bytes at fault, and what follows.
-use Rattle.std.proofs.Common.{◌≡◌, ◌⊎◌, inl, inr, ℕ, ◌-◌, ◌<◌, List, [], ◌∷◌, ◌++◌, length, Result, Ok, Err, refl, sym, ap, subst, ◌∙◌, append_assoc, append-nil, arith}
+use Rattle.std.proofs.Common.{◌≡◌, ◌⊎◌, inl, inr, ℕ, ◌-◌, ◌<◌, List, [], ◌∷◌, ◌++◌, length, Result, Ok, Err, refl, sym, ap, subst}
+use Rattle.std.proofs.Common.{◌∙◌, append_assoc, append-nil, arith}
 use Rattle.ncc_pack.specs.declared.error.PackError.{PackError}
-use Rattle.ncc_pack.specs.declared.error.PackError.TheVariants.{Short, Float, BadMarker, BadUtf8, RepeatedKey, KeyNotText, TooDeep, TooLong, Memory}
+use Rattle.ncc_pack.specs.declared.error.PackError.TheVariants.{Short, Float, BadMarker, BadUtf8, RepeatedKey, KeyNotText, TooDeep}
+use Rattle.ncc_pack.specs.declared.error.PackError.TheVariants.{TooLong, Memory}
 use Rattle.ncc_pack.specs.Reading.{◌>>=◌, Read}
 use Rattle.ncc_pack.specs.Spells.{SpellsText}
 use Rattle.ncc_pack.specs.Offence.{Offends}
@@ -29,6 +31,32 @@ abbrev pub IsHard : PackError → Type 0
 IsHard Short = ⊥
 IsHard Memory = ⊥
 IsHard _ = Unit {0}
+
+-- a fault that stands at a marker
+abbrev pub AtMarker : PackError → Type 0
+AtMarker Short = ⊥
+AtMarker (BadUtf8 at) = ⊥
+AtMarker Memory = ⊥
+AtMarker _ = Unit {0}
+
+-- a fault of a text's bytes
+abbrev pub IsIll : PackError → Type 0
+IsIll (BadUtf8 at) = Unit {0}
+IsIll _ = ⊥
+
+hard_marker : (err : PackError) → AtMarker err → IsHard err
+hard_marker Short m = m
+hard_marker (BadUtf8 at) m = absurd m
+hard_marker Memory m = m
+hard_marker _ m = tt
+
+not_ill : (err : PackError) → AtMarker err → IsIll err → ⊥
+not_ill (BadUtf8 at) m i = m
+not_ill _ m i = i
+
+-- a letter
+abbrev pub letter : List ℕ
+letter = 0x61 ∷ []
 
 abbrev pub GoesOn : {A : Type 0} → (A → List ℕ → Type 0) → PackError → List ℕ → Type 0
 GoesOn R err b = Open R b ⊎ (InText err × CutKey R b)
@@ -74,6 +102,7 @@ pub record Fault {A : Type 0} (G : PackError → List ℕ → Type 0) (f : Reade
   pub some : IsHard err → 0 < length offence
   pub shape : Shaped err offence
   pub ends : err ≡ Short → after ≡ []
+  pub takes : IsIll err → G err (before ++ letter)
 
 -- ---- lists
 
@@ -82,7 +111,8 @@ grouped a b c d = ap (λ (z : List ℕ). z ++ d) (append_assoc a b c) ∙ append
 
 -- ---- what goes on goes on in what holds it
 
-pub goes_map : {A B : Type 0} (R : A → List ℕ → Type 0) (S : B → List ℕ → Type 0) (front : List ℕ) → ((z : List ℕ) → Open R z → Open S (front ++ z))
+pub goes_map : {A B : Type 0} (R : A → List ℕ → Type 0) (S : B → List ℕ → Type 0) (front : List ℕ) →
+    ((z : List ℕ) → Open R z → Open S (front ++ z))
     → (err : PackError) (z : List ℕ) → GoesOn R err z → GoesOn S err (front ++ z)
 goes_map R S front m err z (inl o) = inl (m z o)
 goes_map R S front m err z (inr k) = let c = k.1 in inr (
@@ -92,14 +122,21 @@ goes_map R S front m err z (inr k) = let c = k.1 in inr (
     cut = c.cut;
     is = ap (λ (q : List ℕ). front ++ q) c.is ∙ sym (append_assoc front c.before c.cut);
     ends = c.ends;
-    other = (c.other.0, c.other.1, c.other.2, subst (Open S) (sym (append_assoc front c.before c.other.1)) (m (c.before ++ c.other.1) c.other.3));
+    other = (
+      c.other.0,
+      c.other.1,
+      c.other.2,
+      subst (Open S) (sym (append_assoc front c.before c.other.1)) (m (c.before ++ c.other.1) c.other.3),
+    );
   },
 )
 
 -- ---- a fault of a part is one of the whole
 
-pub passed : {A B : Type 0} (G H : PackError → List ℕ → Type 0) (f : Reader A) (h : Reader B) (total : ℕ) (front rest b : List ℕ) (err : PackError) → b ≡ front ++ rest
-    → ((z : List ℕ) → G err z → H err (front ++ z)) → ((all : ℕ) (z : List ℕ) (y : B × List ℕ) → h all (front ++ z) ≡ Ok y → (x : A × List ℕ) × (f all z ≡ Ok x))
+pub passed : {A B : Type 0} (G H : PackError → List ℕ →
+    Type 0) (f : Reader A) (h : Reader B) (total : ℕ) (front rest b : List ℕ) (err : PackError) → b ≡ front ++ rest
+    → ((z : List ℕ) → G err z → H err (front ++ z)) → ((all : ℕ) (z : List ℕ) (y : B × List ℕ) → h all (front ++ z) ≡ Ok y →
+    (x : A × List ℕ) × (f all z ≡ Ok x))
     → Fault G f total rest err → Fault H h total b err
 passed G H f h total front rest b err parts m step fault = record {
   before = front ++ fault.before;
@@ -115,37 +152,12 @@ passed G H f h total front rest b err parts m step fault = record {
   some = fault.some;
   shape = fault.shape;
   ends = fault.ends;
-}
-
--- bytes that are not empty begin with their first
-begun : (m : ℕ) (bytes g o r : List ℕ) → m ∷ bytes ≡ g ++ (o ++ r) → 0 < length o → (q : List ℕ) × (g ++ o ≡ m ∷ q)
-begun m bytes [] [] r e lt = absurd (omega arith)
-begun m bytes [] (x ∷ o) r e lt = let s : x ≡ m = cc in (o, ap (λ (k : ℕ). k ∷ o) s)
-begun m bytes (x ∷ g) o r e lt = let s : x ≡ m = cc in (g ++ o, ap (λ (k : ℕ). k ∷ (g ++ o)) s)
-
--- the same of readings of what begins with one marker
-pub relabelled : {A B : Type 0} (G H : PackError → List ℕ → Type 0) (f : Reader A) (h : Reader B) (total m : ℕ) (bytes : List ℕ) (err : PackError)
-    → ((z : List ℕ) → G err z → H err z) → ((all : ℕ) (z : List ℕ) (y : B × List ℕ) → h all (m ∷ z) ≡ Ok y → (x : A × List ℕ) × (f all (m ∷ z) ≡ Ok x))
-    → Fault G f total (m ∷ bytes) err → Fault H h total (m ∷ bytes) err
-relabelled G H f h total m bytes err map step fault = record {
-  before = fault.before;
-  offence = fault.offence;
-  after = fault.after;
-  parts = fault.parts;
-  place = fault.place;
-  goes_on = map fault.before fault.goes_on;
-  never = λ hard all more y e.
-      let q = begun m bytes fault.before fault.offence fault.after fault.parts (fault.some hard) in
-      let w = ap (λ (z : List ℕ). z ++ more) q.1 in
-      let r = step all (q.0 ++ more) y (ap (h all) (sym w) ∙ e) in
-      fault.never hard all more r.0 (ap (f all) w ∙ r.1);
-  some = fault.some;
-  shape = fault.shape;
-  ends = fault.ends;
+  takes = λ ill. subst (H err) (sym (append_assoc front fault.before letter)) (m (fault.before ++ letter) (fault.takes ill));
 }
 
 -- bytes that end too early
-pub short_fault : {A : Type 0} (G : PackError → List ℕ → Type 0) (f : Reader A) (total : ℕ) (b : List ℕ) → G Short b → Fault G f total b Short
+pub short_fault : {A : Type 0} (G : PackError → List ℕ → Type 0) (f : Reader A) (total : ℕ) (b : List ℕ) → G Short b →
+    Fault G f total b Short
 short_fault G f total b goes = record {
   before = b;
   offence = [];
@@ -157,10 +169,12 @@ short_fault G f total b goes = record {
   some = λ hard. absurd hard;
   shape = refl;
   ends = λ _. refl;
+  takes = λ ill. absurd ill;
 }
 
 -- a fault at a marker
-pub marker_fault : {A : Type 0} (G : PackError → List ℕ → Type 0) (f : Reader A) (total m : ℕ) (more rest bytes : List ℕ) (err : PackError) → bytes ≡ more ++ rest → IsHard err
+pub marker_fault : {A : Type 0} (G : PackError → List ℕ →
+    Type 0) (f : Reader A) (total m : ℕ) (more rest bytes : List ℕ) (err : PackError) → bytes ≡ more ++ rest → AtMarker err
     → PlacedAt err (total - length (m ∷ bytes)) → G err [] → NeverOk f (m ∷ more) → Shaped err (m ∷ more) → Fault G f total (m ∷ bytes) err
 marker_fault G f total m more rest bytes err parts hard place goes never shape = record {
   before = [];
@@ -172,7 +186,8 @@ marker_fault G f total m more rest bytes err parts hard place goes never shape =
   never = λ _. never;
   some = λ _. omega arith;
   shape = shape;
-  ends = λ e. absurd (soft err e hard);
+  ends = λ e. absurd (soft err e (hard_marker err hard));
+  takes = λ ill. absurd (not_ill err hard ill);
 }
   where
     soft : (d : PackError) → d ≡ Short → IsHard d → ⊥

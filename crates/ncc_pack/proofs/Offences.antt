@@ -1,16 +1,18 @@
 -- What a refusal says of the bytes themselves.
-use Rattle.std.proofs.Common.{Option, ◌+◌, ◌≤◌, ◌≡◌, ◌⊎◌, inl, inr, ℕ, ◌-◌, List, [], ◌++◌, length, Result, Ok, Err, Some, refl, sym, ap, subst, ◌∙◌, append_assoc, append-nil, arith}
+use Rattle.std.proofs.Common.{Option, ◌+◌, ◌≤◌, ◌≡◌, ◌⊎◌, inl, inr, ℕ, ◌-◌, List, [], ◌++◌, length, Result, Ok, Err, Some, refl}
+use Rattle.std.proofs.Common.{sym, ap, subst, ◌∙◌, append_assoc, append-nil, arith}
 use Rattle.std.proofs.lemmas.List.{length-append}
 use Rattle.ncc_pack.specs.declared.value.Value.{Value}
 use Rattle.ncc_pack.specs.declared.error.PackError.{PackError}
-use Rattle.ncc_pack.specs.declared.error.PackError.TheVariants.{Short, Float, BadMarker, BadUtf8, RepeatedKey, KeyNotText, TooDeep, TooLong, Memory}
+use Rattle.ncc_pack.specs.declared.error.PackError.TheVariants.{Short, Float, BadMarker, BadUtf8, RepeatedKey, KeyNotText, TooDeep}
+use Rattle.ncc_pack.specs.declared.error.PackError.TheVariants.{TooLong, Memory}
 use Rattle.ncc_pack.specs.Reading.{Read, value_at, read_value}
 use Rattle.ncc_pack.specs.Spells.{spells}
-use Rattle.ncc_pack.specs.Offence.{AreBytes, BeginsValue, MayBegin, EndsInKey, place_of, MayGoOn, Offends, RefusedAt, StandsAt}
+use Rattle.ncc_pack.specs.Offence.{AreBytes, BeginsValue, MayBegin, EndsInKey, place_of, MayGoOn, TakesLetter, Offends, RefusedAt, StandsAt}
 use Rattle.ncc_pack.proofs.Fields.{IsBytes}
 use Rattle.ncc_pack.proofs.Taken.{value_taken}
 use Rattle.ncc_pack.proofs.Spelled.{value_again}
-use Rattle.ncc_pack.proofs.Faults.{Open, CutKey, InText, IsHard, PlacedAt, Shaped, GoesOn, NeverOk, Fault}
+use Rattle.ncc_pack.proofs.Faults.{Open, CutKey, InText, IsHard, PlacedAt, Shaped, GoesOn, NeverOk, Fault, IsIll, letter}
 use Rattle.ncc_pack.proofs.Refusing.{value_reader, finds_value}
 
 -- ---- what goes on
@@ -19,7 +21,13 @@ may_begin : (z : List ℕ) → Open spells z → MayBegin z
 may_begin z o = (o.0, (o.1, z ++ o.0, [], o.2, sym (append-nil (z ++ o.0))))
 
 pub in_key : (z : List ℕ) → CutKey spells z → EndsInKey z
-in_key z c = record { before = c.before; cut = c.cut; is = c.is; ends = c.ends; other = (c.other.0, c.other.1, c.other.2, may_begin (c.before ++ c.other.1) c.other.3) }
+in_key z c = record {
+  before = c.before;
+  cut = c.cut;
+  is = c.is;
+  ends = c.ends;
+  other = (c.other.0, c.other.1, c.other.2, may_begin (c.before ++ c.other.1) c.other.3);
+}
 
 from_open : (err : PackError) (z : List ℕ) → MayBegin z → MayGoOn err z
 from_open Short z m = inl m
@@ -34,6 +42,10 @@ from_cut _ z i k = absurd i
 goes : (err : PackError) (z : List ℕ) → GoesOn spells err z → MayGoOn err z
 goes err z (inl o) = from_open err z (may_begin z o)
 goes err z (inr k) = from_cut err z k.0 (in_key z k.1)
+
+takes_letter : (err : PackError) (z : List ℕ) → (IsIll err → GoesOn spells err (z ++ letter)) → TakesLetter err z
+takes_letter (BadUtf8 at) z h = goes (BadUtf8 at) (z ++ letter) (h tt)
+takes_letter _ z h = tt
 
 never_begins : (b : List ℕ) → NeverOk (value_reader 32) b → MayBegin b → ⊥
 never_begins b never m =
@@ -90,7 +102,8 @@ okay y = Ok y
 
 pub none_yet : (b : List ℕ) → AreBytes b → read_value b ≡ Err Short → BeginsValue b → ⊥
 none_yet b fits e begun =
-    let so : read_value b ≡ Ok (begun.0, begun.2) = ap (value_at (length b) 32) begun.4 ∙ value_again (length b) 32 begun.0 begun.1 begun.2 begun.3 in
+    let so : read_value b ≡ Ok (begun.0, begun.2) = ap (value_at (length b) 32) begun.4
+    ∙ value_again (length b) 32 begun.0 begun.1 begun.2 begun.3 in
     no (begun.0, begun.2) (sym so ∙ e)
   where
     no : (y : Value × List ℕ) → let r : Read Value = Ok y in r ≡ Err Short → ⊥
@@ -99,7 +112,8 @@ none_yet b fits e begun =
 pub may : (b : List ℕ) → AreBytes b → read_value b ≡ Err Short → MayGoOn Short b
 may b fits e =
     let f = found b Short fits e in
-    let whole : b ≡ f.before = f.parts ∙ ap (λ (z : List ℕ). f.before ++ (z ++ f.after)) f.shape ∙ ap (λ (z : List ℕ). f.before ++ z) (f.ends refl) ∙ append-nil f.before in
+    let whole : b ≡ f.before = f.parts ∙ ap (λ (z : List ℕ). f.before ++ (z ++ f.after)) f.shape
+    ∙ ap (λ (z : List ℕ). f.before ++ z) (f.ends refl) ∙ append-nil f.before in
     subst (MayGoOn Short) (sym whole) (goes Short f.before f.goes_on)
 
 -- what may begin a value may after a front of it
@@ -139,6 +153,7 @@ stands b err at fits (e, p) =
       parts = f.parts;
       place = place;
       goes_on = goes err f.before f.goes_on;
+      letter = takes_letter err f.before f.takes;
       ends = never_begins (f.before ++ f.offence) (f.never hard);
       offends = shaped err f.offence hard f.shape;
     }
@@ -173,6 +188,7 @@ stands_in total b err fits e hard le =
         parts = f.parts;
         place = refl;
         goes_on = goes err f.before f.goes_on;
+        letter = takes_letter err f.before f.takes;
         ends = never_begins (f.before ++ f.offence) (f.never hard);
         offends = shaped err f.offence hard f.shape;
       },

@@ -1,5 +1,7 @@
 -- Texts whose bytes end too early: which may still become UTF-8 (Unicode, table 3-7).
-use Rattle.std.proofs.Common.{◌≡◌, ◌⊎◌, inl, inr, ℕ, zero, suc, ◌+◌, ◌-◌, ◌*◌, ◌<◌, ◌≤◌, Bool, true, false, cond, eqb, ltb, List, [], ◌∷◌, ◌++◌, length, get_or, take, drop, Option, None, Some, refl, sym, subst, ◌∙◌, append-nil, take-add, arith}
+use Rattle.std.proofs.Common.{◌≡◌, ◌⊎◌, inl, inr, ℕ, zero, suc, ◌+◌, ◌-◌, ◌*◌, ◌<◌, ◌≤◌, Bool, true, false, cond, eqb, ltb, List}
+use Rattle.std.proofs.Common.{[], ◌∷◌, ◌++◌, length, get_or, take, drop, Option, None, Some, refl, sym, subst, ◌∙◌, append-nil}
+use Rattle.std.proofs.Common.{take-add, arith}
 use Rattle.std.specs.Prelude.{IsUtf8}
 use Rattle.std.specs.Int.{is_in_range}
 use Rattle.std.specs.Str.{is_utf8}
@@ -19,7 +21,8 @@ front_up_to : (bs : List ℕ) (m : ℕ) → IsUtf8 (take (valid_len_up_to bs m) 
 front_up_to bs zero = IsUtf8-nil
 front_up_to bs (suc m) = by (is_utf8 (take (suc m) bs)) refl (front_up_to bs m)
   where
-    by : (t : Bool) → is_utf8 (take (suc m) bs) ≡ t → IsUtf8 (take (valid_len_up_to bs m) bs) → IsUtf8 (take (cond t (suc m) (valid_len_up_to bs m)) bs)
+    by : (t : Bool) → is_utf8 (take (suc m) bs) ≡ t → IsUtf8 (take (valid_len_up_to bs m) bs) →
+        IsUtf8 (take (cond t (suc m) (valid_len_up_to bs m)) bs)
     by true e below = IsUtf8-from_is_utf8 _ e
     by false e below = below
 
@@ -27,7 +30,8 @@ longest_up_to : (bs : List ℕ) (m k : ℕ) → valid_len_up_to bs m < k → k �
 longest_up_to bs zero k lt le u = absurd (omega arith)
 longest_up_to bs (suc m) k lt le u = by (is_utf8 (take (suc m) bs)) refl lt (cases_lt k (suc m)) (λ l below. longest_up_to bs m k l below u)
   where
-    by : (t : Bool) → is_utf8 (take (suc m) bs) ≡ t → cond t (suc m) (valid_len_up_to bs m) < k → (k < suc m) ⊎ (suc m ≤ k) → (valid_len_up_to bs m < k → k ≤ m → ⊥) → ⊥
+    by : (t : Bool) → is_utf8 (take (suc m) bs) ≡ t → cond t (suc m) (valid_len_up_to bs m) < k → (k < suc m) ⊎ (suc m ≤ k) →
+        (valid_len_up_to bs m < k → k ≤ m → ⊥) → ⊥
     by true e l w h = omega arith
     by false e l (inl w) h = h l (omega arith)
     by false e l (inr w) h =
@@ -62,7 +66,14 @@ record Second (x y : ℕ) : Type 0 where
   pub f4 : x ≡ 0xF4 → y ≤ 0x8F
 
 second_is : (x y : ℕ) → is_in_range (second_byte_min x) (second_byte_max x) y ≡ true → Second x y
-second_is x y e = record { low = grind arith; high = grind arith; e0 = λ s. grind arith; f0 = λ s. grind arith; ed = λ s. grind arith; f4 = λ s. grind arith }
+second_is x y e = record {
+  low = grind arith;
+  high = grind arith;
+  e0 = λ s. grind arith;
+  f0 = λ s. grind arith;
+  ed = λ s. grind arith;
+  f4 = λ s. grind arith;
+}
 
 second_in : (x y : ℕ) → Second x y → is_in_range (second_byte_min x) (second_byte_max x) y ≡ true
 second_in x y s =
@@ -105,10 +116,12 @@ three_ok x y z l h s f =
         by (inl lt) = let e : x ≡ 0xE0 = omega arith in let t = s.e0 e in omega arith
         by (inr le) = omega arith
 
-    three_gap : (x y z : ℕ) → 224 ≤ x → x < 240 → Second x y → Follows z → let c = (x - 224) * 4096 + (y - 128) * 64 + (z - 128) in (c < 55296) ⊎ (57344 ≤ c)
+    three_gap : (x y z : ℕ) → 224 ≤ x → x < 240 → Second x y → Follows z → let c = (x - 224) * 4096 + (y - 128) * 64 + (z - 128) in
+        (c < 55296) ⊎ (57344 ≤ c)
     three_gap x y z l h s f = by (cases_lt x 0xED) (cases_lt x 0xEE)
       where
-        by : (x < 0xED) ⊎ (0xED ≤ x) → (x < 0xEE) ⊎ (0xEE ≤ x) → let c = (x - 224) * 4096 + (y - 128) * 64 + (z - 128) in (c < 55296) ⊎ (57344 ≤ c)
+        by : (x < 0xED) ⊎ (0xED ≤ x) → (x < 0xEE) ⊎ (0xEE ≤ x) → let c = (x - 224) * 4096 + (y - 128) * 64 + (z - 128) in
+            (c < 55296) ⊎ (57344 ≤ c)
         by (inl lt) w = let a = s.high in let b = s.low in inl (omega arith)
         by (inr le) (inl lt) = let e : x ≡ 0xED = omega arith in let t = s.ed e in let b = s.low in inl (omega arith)
         by (inr le) (inr w) = inr (omega arith)
@@ -138,14 +151,65 @@ any_second : (x : ℕ) → (y : ℕ) × Second x y
 any_second x = by (cases_lt x 0xE1) (cases_lt x 0xE0) (cases_lt x 0xF1) (cases_lt x 0xF0)
   where
     by : (x < 0xE1) ⊎ (0xE1 ≤ x) → (x < 0xE0) ⊎ (0xE0 ≤ x) → (x < 0xF1) ⊎ (0xF1 ≤ x) → (x < 0xF0) ⊎ (0xF0 ≤ x) → (y : ℕ) × Second x y
-    by (inl a) (inr b) c d = (0xA0, record { low = omega arith; high = omega arith; e0 = λ _. omega arith; f0 = λ _. omega arith; ed = λ e. absurd (omega arith); f4 = λ e. absurd (omega arith) })
-    by _ _ (inl c) (inr d) = (0x90, record { low = omega arith; high = omega arith; e0 = λ e. absurd (omega arith); f0 = λ _. omega arith; ed = λ _. omega arith; f4 = λ e. absurd (omega arith) })
-    by (inr a) b (inr c) d = (128, record { low = omega arith; high = omega arith; e0 = λ e. absurd (omega arith); f0 = λ e. absurd (omega arith); ed = λ _. omega arith; f4 = λ _. omega arith })
-    by (inr a) b (inl c) (inl d) = (128, record { low = omega arith; high = omega arith; e0 = λ e. absurd (omega arith); f0 = λ e. absurd (omega arith); ed = λ _. omega arith; f4 = λ _. omega arith })
-    by (inl a) (inl b) c d = (128, record { low = omega arith; high = omega arith; e0 = λ e. absurd (omega arith); f0 = λ e. absurd (omega arith); ed = λ _. omega arith; f4 = λ _. omega arith })
+    by (inl a) (inr b) c d = (
+      0xA0,
+      record {
+        low = omega arith;
+        high = omega arith;
+        e0 = λ _. omega arith;
+        f0 = λ _. omega arith;
+        ed = λ e. absurd (omega arith);
+        f4 = λ e. absurd (omega arith);
+      },
+    )
+    by _ _ (inl c) (inr d) = (
+      0x90,
+      record {
+        low = omega arith;
+        high = omega arith;
+        e0 = λ e. absurd (omega arith);
+        f0 = λ _. omega arith;
+        ed = λ _. omega arith;
+        f4 = λ e. absurd (omega arith);
+      },
+    )
+    by (inr a) b (inr c) d = (
+      128,
+      record {
+        low = omega arith;
+        high = omega arith;
+        e0 = λ e. absurd (omega arith);
+        f0 = λ e. absurd (omega arith);
+        ed = λ _. omega arith;
+        f4 = λ _. omega arith;
+      },
+    )
+    by (inr a) b (inl c) (inl d) = (
+      128,
+      record {
+        low = omega arith;
+        high = omega arith;
+        e0 = λ e. absurd (omega arith);
+        f0 = λ e. absurd (omega arith);
+        ed = λ _. omega arith;
+        f4 = λ _. omega arith;
+      },
+    )
+    by (inl a) (inl b) c d = (
+      128,
+      record {
+        low = omega arith;
+        high = omega arith;
+        e0 = λ e. absurd (omega arith);
+        f0 = λ e. absurd (omega arith);
+        ed = λ _. omega arith;
+        f4 = λ _. omega arith;
+      },
+    )
 
 -- how long a sequence is, by its first byte
-long : (x : ℕ) (r : List ℕ) (k : ℕ) → (128 ≤ x → x < 224 → k ≡ 2) → (224 ≤ x → x < 240 → k ≡ 3) → (240 ≤ x → k ≡ 4) → 128 ≤ x → k ≡ sequence_len (x ∷ r)
+long : (x : ℕ) (r : List ℕ) (k : ℕ) → (128 ≤ x → x < 224 → k ≡ 2) → (224 ≤ x → x < 240 → k ≡ 3) → (240 ≤ x → k ≡ 4) → 128 ≤ x →
+    k ≡ sequence_len (x ∷ r)
 long x r k two three four le = grind arith
 
 one_ends : (x : ℕ) → 194 ≤ x → x ≤ 244 → Ends (x ∷ [])
@@ -155,25 +219,51 @@ one_ends x l h = by (cases_lt x 224) (cases_lt x 240)
     s = any_second x
 
     by : (x < 224) ⊎ (224 ≤ x) → (x < 240) ⊎ (240 ≤ x) → Ends (x ∷ [])
-    by (inl a) _ = (128 ∷ [], two_ok x 128 l a after_128, long x [] 2 (λ _ _. refl) (λ p q. absurd (omega arith)) (λ p. absurd (omega arith)) (omega arith))
-    by (inr a) (inl b) = (s.0 ∷ 128 ∷ [], three_ok x s.0 128 a b s.1 after_128, long x [] 3 (λ p q. absurd (omega arith)) (λ _ _. refl) (λ p. absurd (omega arith)) (omega arith))
-    by (inr a) (inr b) = (s.0 ∷ 128 ∷ 128 ∷ [], four_ok x s.0 128 128 b h s.1 after_128 after_128, long x [] 4 (λ p q. absurd (omega arith)) (λ p q. absurd (omega arith)) (λ _. refl) (omega arith))
+    by (inl a) _ = (
+      128 ∷ [],
+      two_ok x 128 l a after_128,
+      long x [] 2 (λ _ _. refl) (λ p q. absurd (omega arith)) (λ p. absurd (omega arith)) (omega arith),
+    )
+    by (inr a) (inl b) = (
+      s.0 ∷ 128 ∷ [],
+      three_ok x s.0 128 a b s.1 after_128,
+      long x [] 3 (λ p q. absurd (omega arith)) (λ _ _. refl) (λ p. absurd (omega arith)) (omega arith),
+    )
+    by (inr a) (inr b) = (
+      s.0 ∷ 128 ∷ 128 ∷ [],
+      four_ok x s.0 128 128 b h s.1 after_128 after_128,
+      long x [] 4 (λ p q. absurd (omega arith)) (λ p q. absurd (omega arith)) (λ _. refl) (omega arith),
+    )
 
 two_ends : (x y : ℕ) → 194 ≤ x → x ≤ 244 → Second x y → NoChar (x ∷ y ∷ []) → Ends (x ∷ y ∷ [])
 two_ends x y l h s none = by (cases_lt x 224) (cases_lt x 240)
   where
     by : (x < 224) ⊎ (224 ≤ x) → (x < 240) ⊎ (240 ≤ x) → Ends (x ∷ y ∷ [])
-    by (inl a) _ = let low = s.low in let high = s.high in absurd (none 2 (omega arith) (omega arith) (two_ok x y l a (omega arith, omega arith)))
-    by (inr a) (inl b) = (128 ∷ [], three_ok x y 128 a b s after_128, long x (y ∷ []) 3 (λ p q. absurd (omega arith)) (λ _ _. refl) (λ p. absurd (omega arith)) (omega arith))
-    by (inr a) (inr b) = (128 ∷ 128 ∷ [], four_ok x y 128 128 b h s after_128 after_128, long x (y ∷ []) 4 (λ p q. absurd (omega arith)) (λ p q. absurd (omega arith)) (λ _. refl) (omega arith))
+    by (inl a) _ = let low = s.low in let high = s.high in
+        absurd (none 2 (omega arith) (omega arith) (two_ok x y l a (omega arith, omega arith)))
+    by (inr a) (inl b) = (
+      128 ∷ [],
+      three_ok x y 128 a b s after_128,
+      long x (y ∷ []) 3 (λ p q. absurd (omega arith)) (λ _ _. refl) (λ p. absurd (omega arith)) (omega arith),
+    )
+    by (inr a) (inr b) = (
+      128 ∷ 128 ∷ [],
+      four_ok x y 128 128 b h s after_128 after_128,
+      long x (y ∷ []) 4 (λ p q. absurd (omega arith)) (λ p q. absurd (omega arith)) (λ _. refl) (omega arith),
+    )
 
 three_ends : (x y z : ℕ) → 194 ≤ x → x ≤ 244 → Second x y → Follows z → NoChar (x ∷ y ∷ z ∷ []) → Ends (x ∷ y ∷ z ∷ [])
 three_ends x y z l h s f none = by (cases_lt x 224) (cases_lt x 240)
   where
     by : (x < 224) ⊎ (224 ≤ x) → (x < 240) ⊎ (240 ≤ x) → Ends (x ∷ y ∷ z ∷ [])
-    by (inl a) _ = let low = s.low in let high = s.high in absurd (none 2 (omega arith) (omega arith) (two_ok x y l a (omega arith, omega arith)))
+    by (inl a) _ = let low = s.low in let high = s.high in
+        absurd (none 2 (omega arith) (omega arith) (two_ok x y l a (omega arith, omega arith)))
     by (inr a) (inl b) = absurd (none 3 (omega arith) (omega arith) (three_ok x y z a b s f))
-    by (inr a) (inr b) = (128 ∷ [], four_ok x y z 128 b h s f after_128, long x (y ∷ z ∷ []) 4 (λ p q. absurd (omega arith)) (λ p q. absurd (omega arith)) (λ _. refl) (omega arith))
+    by (inr a) (inr b) = (
+      128 ∷ [],
+      four_ok x y z 128 b h s f after_128,
+      long x (y ∷ z ∷ []) 4 (λ p q. absurd (omega arith)) (λ p q. absurd (omega arith)) (λ _. refl) (omega arith),
+    )
 
 errs : (a b c : Bool) → cond {A = Option ℕ} a (cond b (cond c (Some 3) (Some 2)) (Some 1)) (Some 1) ≡ None → ⊥
 errs false b c e = cc
@@ -206,7 +296,8 @@ may_end (x ∷ y ∷ z ∷ w ∷ r) some e none =
     let l2 : ltb (suc (suc (suc (suc (length r))))) 2 ≡ false = le-ltb _ _ (omega arith) in
     let l3 : ltb (suc (suc (suc (suc (length r))))) 3 ≡ false = le-ltb _ _ (omega arith) in
     let l4 : ltb (suc (suc (suc (suc (length r))))) 4 ≡ false = le-ltb _ _ (omega arith) in
-    absurd (errs (is_in_range 0xC2 0xF4 x) (is_in_range (second_byte_min x) (second_byte_max x) y) (is_in_range 0x80 0xBF z) (rw (l0, l2, l3, l4) at e))
+    absurd (errs (is_in_range 0xC2 0xF4 x) (is_in_range (second_byte_min x) (second_byte_max x) y) (is_in_range 0x80 0xBF z)
+    (rw (l0, l2, l3, l4) at e))
 
 -- ---- bytes with an error begin no text, nor do those with too little room
 
@@ -239,9 +330,12 @@ room n x y z w rest r le =
     by (cases_lt x 224) (cases_lt x 240)
   where
     by : (x < 224) ⊎ (224 ≤ x) → (x < 240) ⊎ (240 ≤ x) → sequence_len (x ∷ rest) ≤ n
-    by (inl a) _ = let e : 2 ≡ sequence_len (x ∷ rest) = long x rest 2 (λ _ _. refl) (λ p q. absurd (omega arith)) (λ p. absurd (omega arith)) le in let k = (r.second le).1 in omega arith
-    by (inr a) (inl b) = let e : 3 ≡ sequence_len (x ∷ rest) = long x rest 3 (λ p q. absurd (omega arith)) (λ _ _. refl) (λ p. absurd (omega arith)) le in let k = (r.third a).0 in omega arith
-    by (inr a) (inr b) = let e : 4 ≡ sequence_len (x ∷ rest) = long x rest 4 (λ p q. absurd (omega arith)) (λ p q. absurd (omega arith)) (λ _. refl) le in let k = (r.fourth b).0 in omega arith
+    by (inl a) _ = let e : 2 ≡ sequence_len (x ∷ rest) =
+        long x rest 2 (λ _ _. refl) (λ p q. absurd (omega arith)) (λ p. absurd (omega arith)) le in let k = (r.second le).1 in omega arith
+    by (inr a) (inl b) = let e : 3 ≡ sequence_len (x ∷ rest) =
+        long x rest 3 (λ p q. absurd (omega arith)) (λ _ _. refl) (λ p. absurd (omega arith)) le in let k = (r.third a).0 in omega arith
+    by (inr a) (inr b) = let e : 4 ≡ sequence_len (x ∷ rest) =
+        long x rest 4 (λ p q. absurd (omega arith)) (λ p q. absurd (omega arith)) (λ _. refl) le in let k = (r.fourth b).0 in omega arith
 
 -- a first byte is no ASCII, since no character begins these bytes
 no_ascii : (x : ℕ) (rest : List ℕ) → NoChar (x ∷ rest) → 128 ≤ x
@@ -303,9 +397,11 @@ may_four : (n x y z w : ℕ) (rest : List ℕ) → Ranged n x y z w → NoChar (
 may_four n x y z w rest r none =
     let a = widest_lead n x y z w (w ∷ rest) r none in
     let l = lead n x y z w r (no_ascii x (y ∷ z ∷ w ∷ rest) none) in
-    none 4 (omega arith) (omega arith) (four_ok x y z w a l.1 (second_ranged n x y z w r (omega arith)) (r.third (omega arith)).1 (r.fourth a).1)
+    none 4 (omega arith) (omega arith) (four_ok x y z w a l.1 (second_ranged n x y z w r (omega arith)) (r.third (omega arith)).1
+    (r.fourth a).1)
 
-ranged_may : (r d : List ℕ) (n : ℕ) → 0 < length r → NoChar r → Ranged n (get_or (r ++ d) 0 0) (get_or (r ++ d) 1 0) (get_or (r ++ d) 2 0) (get_or (r ++ d) 3 0) → Whole n r
+ranged_may : (r d : List ℕ) (n : ℕ) → 0 < length r → NoChar r →
+    Ranged n (get_or (r ++ d) 0 0) (get_or (r ++ d) 1 0) (get_or (r ++ d) 2 0) (get_or (r ++ d) 3 0) → Whole n r
 ranged_may [] d n some none rg = absurd (omega arith)
 ranged_may (x ∷ []) d n some none rg = may_one n x _ _ _ rg none
 ranged_may (x ∷ y ∷ []) d n some none rg = may_two n x y _ _ rg none
@@ -318,5 +414,7 @@ must_end r d some none u k =
     let len = length-append r d in
     let size : length (r ++ d) - 0 ≡ length (r ++ d) = omega arith in
     no_text (r ++ d) []
-    (rw (append-nil (r ++ d)) (no_char (r ++ d) 0 (λ rg. k (ranged_may r d (length (r ++ d)) some none (subst (λ (m : ℕ). Ranged m (get_or (r ++ d) 0 0) (get_or (r ++ d) 1 0) (get_or (r ++ d) 2 0) (get_or (r ++ d) 3 0)) size rg)))))
+    (rw (append-nil (r ++ d)) (no_char (r ++ d) 0
+    (λ rg. k (ranged_may r d (length (r ++ d)) some none
+    (subst (λ (m : ℕ). Ranged m (get_or (r ++ d) 0 0) (get_or (r ++ d) 1 0) (get_or (r ++ d) 2 0) (get_or (r ++ d) 3 0)) size rg)))))
     u (omega arith)

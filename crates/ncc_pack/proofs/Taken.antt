@@ -54,7 +54,8 @@ alone R x m mark bytes y sp says fits e =
 pub IsBytes-rest : (b : ℕ) (bytes : List ℕ) → IsBytes (b ∷ bytes) → IsBytes bytes
 IsBytes-rest b bytes h i = h (suc i)
 
-pub guard_err : {A : Type 0} (b : Bool) (d : PackError) (r : Result A PackError) (y : A) → cond b (Err d) r ≡ Ok y → (b ≡ false) × (r ≡ Ok y)
+pub guard_err : {A : Type 0} (b : Bool) (d : PackError) (r : Result A PackError) (y : A) → cond b (Err d) r ≡ Ok y → (b ≡ false)
+    × (r ≡ Ok y)
 guard_err true d r y e = absurd cc
 guard_err false d r y e = (refl, e)
 

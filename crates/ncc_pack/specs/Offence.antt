@@ -1,6 +1,6 @@
 -- What a refusal says of the bytes themselves: in terms of spellings alone, apart from how they are read (PackStream version 1,
 -- "Representation").
-use Rattle.std.specs.Prelude.{◌≡◌, ◌⊎◌, ◌<◌, ◌≤◌, ℕ, List, [], ◌∷◌, ◌++◌, length, slice_index}
+use Rattle.std.specs.Prelude.{◌≡◌, ◌⊎◌, ◌<◌, ◌≤◌, ℕ, List, [], ◌∷◌, ◌++◌, length, take, slice_index, IsUtf8}
 use Rattle.std.specs.Prelude.{Option, None, Some, Err}
 use Rattle.ncc_pack.specs.declared.value.Value.{Value}
 use Rattle.ncc_pack.specs.declared.error.PackError.{PackError}
@@ -48,17 +48,22 @@ MayGoOn Short b = MayBegin b ⊎ EndsInKey b
 MayGoOn (BadUtf8 at) b = MayBegin b ⊎ EndsInKey b
 MayGoOn _ b = MayBegin b
 
--- which bytes a refusal calls an offence: a marker, a marker and a size, a key, or the rest of a text
+-- which bytes a refusal calls an offence: a marker, a marker and a size, a key, or the rest of a text, which no character begins
 abbrev pub Offends : PackError → List ℕ → Type 0
 Offends Short o = ⊥
 Offends (Float at) o = o ≡ 0xC1 ∷ []
 Offends (BadMarker at) o = length o ≡ 1
-Offends (BadUtf8 at) o = 0 < length o
+Offends (BadUtf8 at) o = (0 < length o) × ((w : ℕ) → 0 < w → w ≤ length o → ¬ (IsUtf8 (take w o)))
 Offends (RepeatedKey at) o = (key : List ℕ) × SpellsText key o
 Offends (KeyNotText at) o = length o ≡ 1
 Offends (TooDeep at) o = length o ≡ 1
 Offends (TooLong at) o = (0 < length o) × (length o ≤ 5)
 Offends Memory o = ⊥
+
+-- where a text is refused, a letter might have stood
+abbrev pub TakesLetter : PackError → List ℕ → Type 0
+TakesLetter (BadUtf8 at) b = MayGoOn (BadUtf8 at) (b ++ 0x61 ∷ [])
+TakesLetter _ b = Unit {0}
 
 -- At its place stands an offence: what is before it may go on, and with it no more.
 pub record StandsAt (b : List ℕ) (refusal : PackError) (at : ℕ) : Type 0 where
@@ -68,6 +73,7 @@ pub record StandsAt (b : List ℕ) (refusal : PackError) (at : ℕ) : Type 0 whe
   pub parts : b ≡ before ++ (offence ++ after)
   pub place : length before ≡ at
   pub goes_on : MayGoOn refusal before
+  pub letter : TakesLetter refusal before
   pub ends : ¬ (MayBegin (before ++ offence))
   pub offends : Offends refusal offence
 
