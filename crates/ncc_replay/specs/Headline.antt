@@ -43,7 +43,14 @@ FactsAreLawful start es = (k : ℕ) (t : Told) → slice_get (run_on es start).t
 
 -- the fact names this place as that of a write
 abbrev pub is_placed_at : ℕ → Told → Bool
-is_placed_at place t = elim t.fact [ Entered at ↦ false | Late need at now ↦ false | Rows at rows ↦ false | Done at ↦ false | Placed p ↦ p == place | Elsewhere ↦ false ]
+is_placed_at place t = elim t.fact [
+  | Entered at ↦ false
+  | Late need at now ↦ false
+  | Rows at rows ↦ false
+  | Done at ↦ false
+  | Placed p ↦ p == place
+  | Elsewhere ↦ false
+]
 
 -- no two writes are told one place
 abbrev pub PlacesAreApart : Run → List (ℕ × Event) → Type 0

@@ -3,7 +3,7 @@ use Rattle.ncc_replay.specs.Report.{report_of}
 use Rattle.ncc_replay.specs.Script.{run_of}
 use Rattle.ncc_replay.specs.Progress.{RunIs}
 use Rattle.ncc_replay.proofs.ScriptLaws.{report_nobody}
-use Rattle.ncc_replay.proofs.replay.put_report.Goals as goal
+use Rattle.ncc_replay.proofs.replay.append_report.Goals as goal
 
 pub returns-in-None : goal.returns-in-None
 returns-in-None c = λ s stands.
