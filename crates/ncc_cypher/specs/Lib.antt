@@ -13,3 +13,4 @@ pub mod Marks
 pub mod Outcome
 pub mod Writing
 pub mod Print
+pub mod Printer
