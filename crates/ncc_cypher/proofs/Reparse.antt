@@ -1,7 +1,8 @@
 -- What is printed of a spelled statement spells it again, but for its columns: the longest-token reading of written tokens
 -- gives these back, since no two run together where no space stands.
-use Rattle.std.proofs.Common.{◌≡◌, ℕ, Bool, true, false, List, [], ◌∷◌, ◌++◌, Option, Some, None, refl, sym, ap, subst, ◌∙◌}
+use Rattle.std.proofs.Common.{◌≡◌, ℕ, Bool, true, false, List, [], ◌∷◌, ◌++◌, Option, Some, None, take, get_or, refl, sym, ap, subst}
 use Rattle.std.specs.Prelude.{codes, map, Result, Ok, Err, IfOk}
+use Rattle.std.specs.List.{prefix_len}
 use Rattle.ncc_pack.specs.declared.value.Value.TheVariants as v
 use Rattle.ncc_cypher.specs.declared.class.Class.TheVariants as q
 use Rattle.ncc_cypher.specs.declared.token.Token.{Token}
@@ -24,6 +25,7 @@ use Rattle.ncc_cypher.specs.Print.{printed, plain, plain_braces, plain_named, wr
 use Rattle.ncc_cypher.specs.Columns.{columns}
 use Rattle.ncc_cypher.specs.Spelled.{Spelled, Again}
 use Rattle.ncc_cypher.proofs.Lists.{Every_front, Every_back, Every_append}
+use Rattle.ncc_cypher.proofs.Lexemes.{passes_front}
 use Rattle.ncc_cypher.proofs.Sources.{IsToken, all_tokens}
 use Rattle.ncc_cypher.proofs.Glue.{Has, has_none, Clean, clean_none, Reads, Firm, token_reads, sign_firm, space_firm, firm_reads, name_reads, text_reads, int_reads}
 
@@ -35,21 +37,15 @@ Stands k.Word w ts = Reads w ts
 Stands k.Name w ts = Reads w ts
 Stands _ w ts = Firm w ts
 
-word_reads : (b : ℕ) (bs : List ℕ) (y : Token) → class b ≡ q.Letter → Passes is_word bs → or_name (b ∷ bs) (keyword (b ∷ bs)) ≡ y → Reads (b ∷ bs) (y ∷ [])
-word_reads b bs y e f m = token_reads (x.word (b ∷ bs)) y (b ∷ bs) (x.a_word b bs e f) (ap (λ (z : Token). Some z) m)
+word_reads : (w : List ℕ) (y : Token) → class (get_or w 0 0) ≡ q.Letter → take (prefix_len is_word w) w ≡ w → or_name w (keyword w) ≡ y → Reads w (y ∷ [])
+unfolding class
+word_reads [] y e f m = absurd cc
+word_reads (b ∷ bs) y e f m =
+    let p : Passes is_word (b ∷ bs) = subst (Passes is_word) f (passes_front is_word (b ∷ bs)) in
+    token_reads (x.word (b ∷ bs)) y (b ∷ bs) (x.a_word b bs e p.1) (ap (λ (z : Token). Some z) m)
 
 token_stands : (y : Token) → IsToken y → Stands (shape y) (written y) (y ∷ [])
 unfolding class keyword sign_of
-token_stands t.Create f = word_reads 67 (82 ∷ 69 ∷ 65 ∷ 84 ∷ 69 ∷ []) t.Create refl (refl, (refl, (refl, (refl, (refl, tt))))) refl
-token_stands t.Match f = word_reads 77 (65 ∷ 84 ∷ 67 ∷ 72 ∷ []) t.Match refl (refl, (refl, (refl, (refl, tt)))) refl
-token_stands t.Merge f = word_reads 77 (69 ∷ 82 ∷ 71 ∷ 69 ∷ []) t.Merge refl (refl, (refl, (refl, (refl, tt)))) refl
-token_stands t.Set f = word_reads 83 (69 ∷ 84 ∷ []) t.Set refl (refl, (refl, tt)) refl
-token_stands t.Delete f = word_reads 68 (69 ∷ 76 ∷ 69 ∷ 84 ∷ 69 ∷ []) t.Delete refl (refl, (refl, (refl, (refl, (refl, tt))))) refl
-token_stands t.Return f = word_reads 82 (69 ∷ 84 ∷ 85 ∷ 82 ∷ 78 ∷ []) t.Return refl (refl, (refl, (refl, (refl, (refl, tt))))) refl
-token_stands t.As f = word_reads 65 (83 ∷ []) t.As refl (refl, tt) refl
-token_stands t.True f = word_reads 84 (82 ∷ 85 ∷ 69 ∷ []) t.True refl (refl, (refl, (refl, tt))) refl
-token_stands t.False f = word_reads 70 (65 ∷ 76 ∷ 83 ∷ 69 ∷ []) t.False refl (refl, (refl, (refl, (refl, tt)))) refl
-token_stands t.Null f = word_reads 78 (85 ∷ 76 ∷ 76 ∷ []) t.Null refl (refl, (refl, (refl, tt))) refl
 token_stands (t.Int i) f = int_reads i f
 token_stands (t.Text b) f = text_reads b
 token_stands (t.Name n) f = name_reads n f
@@ -64,6 +60,7 @@ token_stands t.Equals f = firm_reads (61 ∷ []) (t.Equals ∷ []) (sign_firm 61
 token_stands t.Plus f = firm_reads (43 ∷ []) (t.Plus ∷ []) (sign_firm 43 t.Plus refl refl)
 token_stands t.Dollar f = sign_firm 36 t.Dollar refl refl
 token_stands t.Semicolon f = sign_firm 59 t.Semicolon refl refl
+token_stands y f = word_reads (written y) y refl refl refl
 
 -- ---- neighbours
 

@@ -1,6 +1,5 @@
 use Rattle.std.proofs.Common.{List, ◌∙◌, ap}
 use Rattle.ncc_cypher.specs.declared.token.Token.{Token}
-use Rattle.ncc_cypher.specs.declared.tree.Head.TheVariants.{Alone}
 use Rattle.ncc_cypher.specs.Grammar.{head, changes, tail}
 use Rattle.ncc_cypher.specs.Print.{plain, plain_braces}
 use Rattle.ncc_cypher.specs.Printer.{puts}
