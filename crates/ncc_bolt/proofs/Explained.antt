@@ -1,5 +1,5 @@
 -- What a refusal of a message says of its bytes.
-use Rattle.std.proofs.Common.{◌≡◌, ◌≢◌, ◌⊎◌, inl, inr, ℕ, ◌+◌, ◌-◌, ◌<◌, ◌≤◌, Bool, true, false, cond, eqb, List, [], ◌∷◌, ◌++◌}
+use Rattle.std.proofs.Common.{◌≡◌, ◌≢◌, ◌⊎◌, inl, inr, ℕ, ◌+◌, ◌-◌, ◌≤◌, Bool, true, false, cond, eqb, List, [], ◌∷◌, ◌++◌}
 use Rattle.std.proofs.Common.{length, drop, Result, Ok, Err, Some, refl, sym, ap, subst, ◌∙◌, append_assoc, append-nil, arith}
 use Rattle.std.specs.Prelude.{nat_lt, ◌||◌, ◌==◌}
 use Rattle.std.proofs.lemmas.List.{length-append}
@@ -7,21 +7,20 @@ use Rattle.std.proofs.lemmas.Str.{IsUtf8-nil}
 use Rattle.std.proofs.lemmas.Bool.{eqb-true}
 use Rattle.ncc_pack.specs.declared.value.Value.{Value, out-Value}
 use Rattle.ncc_pack.specs.declared.value.Value.TheOpen.{Value-F}
-use Rattle.ncc_pack.specs.declared.value.Value.TheVariants as v
 use Rattle.ncc_pack.specs.declared.value.NodeValue.{NodeValue}
 use Rattle.ncc_pack.specs.declared.error.PackError.{PackError}
 use Rattle.ncc_pack.specs.declared.error.PackError.TheVariants as p
 use Rattle.ncc_pack.specs.Reading.{value_at}
 use Rattle.ncc_pack.specs.Spells.{spells, levels}
 use Rattle.ncc_pack.specs.Spells as s
-use Rattle.ncc_pack.specs.Offence.{AreBytes, EndsInKey, place_of, StandsAt}
+use Rattle.ncc_pack.specs.Offence.{AreBytes, EndsInKey, place_of}
 use Rattle.ncc_pack.proofs.Fields.{IsBytes, IsBytes-drop}
 use Rattle.ncc_pack.proofs.Taken.{value_taken}
-use Rattle.ncc_pack.proofs.Faults.{Open, GoesOn, Fault, IsHard, PlacedAt}
+use Rattle.ncc_pack.proofs.Faults.{GoesOn, Fault, IsHard}
 use Rattle.ncc_pack.proofs.Refusing.{value_reader, finds_value}
 use Rattle.ncc_pack.proofs.Offences.{in_key, hard_or, stands_in}
 use Rattle.ncc_bolt.specs.declared.error.MessageError.{MessageError}
-use Rattle.ncc_bolt.specs.declared.error.MessageError.TheVariants.{Pack, UnknownTag, WrongFields, WrongKind, Rest, Memory}
+use Rattle.ncc_bolt.specs.declared.error.MessageError.TheVariants.{Pack, UnknownTag, WrongFields, WrongKind, Rest}
 use Rattle.ncc_bolt.specs.Fields.{Kind, dictionary, text, list, Held, value, Fields, SpellsFields}
 use Rattle.ncc_bolt.specs.declared.message.Request.TheVariants.{Goodbye}
 use Rattle.ncc_bolt.specs.declared.message.Response.TheVariants.{Ignored}
@@ -29,9 +28,9 @@ use Rattle.ncc_bolt.specs.Messages.{SpellsRequest, goodbye, SpellsResponse, igno
 use Rattle.ncc_bolt.specs.Table.{Row, requests, responses}
 use Rattle.ncc_bolt.specs.Reading.{◌>>=◌, as_message, tag_at, head_at, spelled_at, held_in, held, field_at, fields_at, fields_of}
 use Rattle.ncc_bolt.specs.Reading.{counted, ended, row_at, in_table, message_at}
-use Rattle.ncc_bolt.specs.Offence.{BeginsMessage, MayBecome, EndsInField, FaultInField, BadStart, ExplainsFault, OtherFields, NoTag}
-use Rattle.ncc_bolt.specs.Offence.{OtherKind, Follows, Explains}
-use Rattle.ncc_bolt.proofs.Parts.{bind_ok, ok_is, spelled_again, held_taken, field_again, field_taken, fields_taken, Read}
+use Rattle.ncc_bolt.specs.Offence.{BeginsMessage, MayBecome, FaultInField, BadStart, ExplainsFault}
+use Rattle.ncc_bolt.specs.Offence.{OtherKind, Explains}
+use Rattle.ncc_bolt.proofs.Parts.{bind_ok, ok_is, spelled_again, held_taken, field_again, field_taken, fields_taken}
 use Rattle.ncc_bolt.proofs.Joined.{RowFound, Found, counted_ok, head_taken, request_found, request_before, request_taken}
 use Rattle.ncc_bolt.proofs.Joined.{response_found, response_before, response_taken}
 

@@ -1,5 +1,5 @@
 -- What is read is spelled so, what is spelled so is read, and what is written is spelled so.
-use Rattle.std.proofs.Common.{◌≡◌, ℕ, ◌+◌, ◌-◌, ◌<◌, ◌≤◌, Bool, true, false, cond, eqb, List, [], ◌∷◌, ◌++◌, length, take, drop}
+use Rattle.std.proofs.Common.{◌≡◌, ℕ, ◌+◌, ◌-◌, ◌≤◌, Bool, true, false, cond, eqb, List, [], ◌∷◌, ◌++◌, length, take, drop}
 use Rattle.std.proofs.Common.{Result, Ok, Err, IfOk, refl, sym, ap, ◌∙◌, append_assoc, subst, arith, ◌⊎◌, inl, inr}
 use Rattle.std.specs.Prelude.{IsTrue, nat_lt, ◌&&◌, ◌||◌}
 use Rattle.std.proofs.lemmas.List.{append-nil, length-append, take_at}
@@ -13,19 +13,19 @@ use Rattle.ncc_pack.proofs.Fields.{IsBytes, IsBytes-drop}
 use Rattle.ncc_pack.proofs.Loops.{both}
 use Rattle.ncc_pack.proofs.Trip.{short_is}
 use Rattle.ncc_bolt.specs.declared.error.MessageError.{MessageError}
-use Rattle.ncc_bolt.specs.declared.error.MessageError.TheVariants.{Pack, WrongFields, Rest}
+use Rattle.ncc_bolt.specs.declared.error.MessageError.TheVariants.{Pack, WrongFields}
 use Rattle.ncc_bolt.specs.declared.message.Request.{Request}
 use Rattle.ncc_bolt.specs.declared.message.Request.TheVariants as r
 use Rattle.ncc_bolt.specs.declared.message.Response.{Response}
 use Rattle.ncc_bolt.specs.declared.message.Response.TheVariants as answer
-use Rattle.ncc_bolt.specs.Fields.{Kind, dictionary, text, list, Held, value, Fields, Pairs, SpellsFields}
+use Rattle.ncc_bolt.specs.Fields.{Kind, dictionary, text, list, Held, value, Fields, SpellsFields}
 use Rattle.ncc_bolt.specs.Messages.{SpellsRequest, hello, goodbye, reset, run, begin, commit, rollback, discard, pull, route}
 use Rattle.ncc_bolt.specs.Messages.{SpellsResponse, success, row, ignored, failure}
 use Rattle.ncc_bolt.specs.Table.{Row, bare, with_dictionary, with_list, run_row, route_row, requests, responses}
-use Rattle.ncc_bolt.specs.Reading.{◌>>=◌, Gives, head_at, tag_at, fields_at, fields_of, counted, ended, row_at, in_table}
-use Rattle.ncc_bolt.specs.Reading.{message_at, request_at, response_at}
+use Rattle.ncc_bolt.specs.Reading.{◌>>=◌, Gives, head_at, ended, row_at, in_table}
+use Rattle.ncc_bolt.specs.Reading.{request_at, response_at}
 use Rattle.ncc_bolt.specs.Writing.{fits_request, fits_response, short_request, short_response}
-use Rattle.ncc_bolt.proofs.Parts.{bind_ok, ok_is, fields_again, fields_taken, Read}
+use Rattle.ncc_bolt.proofs.Parts.{bind_ok, ok_is, fields_again, fields_taken}
 
 same_size : (n : ℕ) → eqb n n ≡ true
 same_size n = grind arith

@@ -1,14 +1,13 @@
 -- Fields that are spelled are read, whatever follows, and fields that are read are spelled so.
 use Rattle.std.proofs.Common.{◌≡◌, ℕ, ◌+◌, ◌-◌, ◌≤◌, List, [], ◌∷◌, ◌++◌, length, drop, Result, Ok, Err, refl, sym, ap, ◌∙◌}
 use Rattle.std.proofs.Common.{append_assoc, subst, arith}
-use Rattle.std.proofs.lemmas.List.{append-nil, length-drop}
+use Rattle.std.proofs.lemmas.List.{length-drop}
 use Rattle.ncc_pack.specs.declared.value.Value.{Value, out-Value, roll-Value, roll-out-Value, out-roll-Value}
 use Rattle.ncc_pack.specs.declared.value.Value.TheVariants as v
 use Rattle.ncc_pack.specs.declared.value.Value.TheOpen.{Value-F}
 use Rattle.ncc_pack.specs.declared.value.NodeValue.{NodeValue}
 use Rattle.ncc_pack.specs.declared.error.PackError.{PackError}
-use Rattle.ncc_pack.specs.Reading.{value_at}
-use Rattle.ncc_pack.specs.Spells.{spells, Spells, levels}
+use Rattle.ncc_pack.specs.Spells.{spells}
 use Rattle.ncc_pack.specs.Limits.{max_depth}
 use Rattle.ncc_pack.proofs.Fields.{IsBytes}
 use Rattle.ncc_pack.proofs.Spelled.{value_again}

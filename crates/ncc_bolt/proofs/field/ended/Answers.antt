@@ -1,4 +1,4 @@
-use Rattle.std.proofs.Common.{◌≡◌, ℕ, ◌-◌, ◌<◌, List, [], ◌∷◌, length, drop, Result, Err, refl, sym, ap, ◌∙◌, arith}
+use Rattle.std.proofs.Common.{◌≡◌, ℕ, ◌-◌, ◌<◌, List, [], ◌∷◌, length, drop, Result, Err, ap, arith}
 use Rattle.std.proofs.lemmas.List.{length-drop}
 use Rattle.ncc_bolt.specs.declared.error.MessageError.{MessageError}
 use Rattle.ncc_bolt.specs.declared.error.MessageError.TheVariants.{Rest}
