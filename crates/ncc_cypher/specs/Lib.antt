@@ -11,5 +11,6 @@ pub mod Columns
 pub mod Spelled
 pub mod Marks
 pub mod Outcome
+pub mod Parsed
 pub mod Writing
 pub mod Print
