@@ -9,4 +9,5 @@ pub record Stock (A : Type 0) : Type 0 where
 
 -- it is stored as the pair of both
 abbrev pub stock_code : {A : Type 0} → Coded A → Coded (Stock A)
-stock_code {A} code = code_by (List A × ℕ) (coded× (coded_list code) coded_ℕ) (λ s. (s.items, s.room)) (λ p. record { items = p.0; room = p.1 }) (λ _. refl)
+stock_code {A} code = code_by (List A × ℕ) (coded× (coded_list code) coded_ℕ) (λ s. (s.items, s.room))
+    (λ p. record { items = p.0; room = p.1 }) (λ _. refl)

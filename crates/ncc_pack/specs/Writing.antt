@@ -5,6 +5,10 @@ use Rattle.ncc_pack.specs.declared.value.NodeValue.{NodeValue}
 use Rattle.ncc_pack.specs.Spells.{spells, IsHead, lists}
 use Rattle.ncc_pack.specs.Fits.{fit, fit_pair, fits_list, fits_dict, fits_node, fits_within}
 
+-- one list begins another
+abbrev pub Begins : List ℕ → List ℕ → Type 0
+Begins front whole = (more : List ℕ) × (whole ≡ front ++ more)
+
 -- bytes grew by a spelling of a value
 abbrev pub Spelled : Value → List ℕ → List ℕ → Type 0
 Spelled x old new = (b : List ℕ) × spells x b × (new ≡ old ++ b)

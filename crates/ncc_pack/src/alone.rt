@@ -16,7 +16,7 @@ use crate::{fit, size};
 /// Says whether a text fits, as `Value::fits` does of a value.
 #[tactic(auto, using(crate::proofs::Single::fits_of_text))]
 pub fn text_fits(text: &Text) -> bool
-    ensures { result ≡ fits (value.Text text.now) }
+    ensures exact { result ≡ fits (value.Text text.now) }
 {
     fit::text_fits(text)
 }
@@ -24,7 +24,7 @@ pub fn text_fits(text: &Text) -> bool
 /// Says whether a list fits, as `Value::fits` does of a value.
 #[tactic(auto, using(crate::proofs::Single::fits_of_list))]
 pub fn values_fit(values: &Values) -> bool
-    ensures { result ≡ fits (value.List values.now) }
+    ensures exact { result ≡ fits (value.List values.now) }
 {
     fit::list_fits(values, MAX_DEPTH)
 }
@@ -32,7 +32,7 @@ pub fn values_fit(values: &Values) -> bool
 /// Says whether a dictionary fits, as `Value::fits` does of a value.
 #[tactic(auto, using(crate::proofs::Single::fits_of_dict))]
 pub fn dict_fits(pairs: &Dict) -> bool
-    ensures { result ≡ fits (value.Dict pairs.now) }
+    ensures exact { result ≡ fits (value.Dict pairs.now) }
 {
     fit::dict_fits(pairs, MAX_DEPTH)
 }
@@ -48,24 +48,24 @@ pub fn values_fit_within(values: &Values, levels: u8) -> bool
 /// Says whether a dictionary fits where so many levels are left for lists, dictionaries and nodes, of the 32 in all.
 #[tactic(auto, using(crate::proofs::Single::fits_of_dict))]
 pub fn dict_fits_within(pairs: &Dict, levels: u8) -> bool
-    ensures { result ≡ fits_within (value.Dict pairs.now) levels }
+    ensures exact { result ≡ fits_within (value.Dict pairs.now) levels }
 {
     fit::dict_fits(pairs, levels)
 }
 
 /// What fits in some levels fits in one more.
 pub fn fits_deeper()
-    ensures { (x : Value) (levels : ℕ) → IsTrue (fits_within x levels) → IsTrue (fits_within x (suc levels)) }
+    ensures deeper { (x : Value) (levels : ℕ) → IsTrue (fits_within x levels) → IsTrue (fits_within x (suc levels)) }
 {}
 
 /// What is spelled fits. So a value that was read fits.
 pub fn spelled_fits()
-    ensures { (x : Value) (b : List ℕ) → spells x b → IsTrue (fits x) }
+    ensures fitting { (x : Value) (b : List ℕ) → spells x b → IsTrue (fits x) }
 {}
 
 /// The length in bytes of what stands before the items of a list of so many. It takes no memory.
 pub fn list_head_len(len: usize) -> u64
-    ensures { result ≡ length (head lists len) }
+    ensures length { result ≡ length (head lists len) }
 {
     size::head_len(len)
 }

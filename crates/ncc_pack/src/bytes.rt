@@ -47,7 +47,7 @@ impl Bytes {
 
     /// A copy of these bytes.
     pub fn from_slice(alloc: Global, bytes: &[u8]) -> Result<Bytes, AllocError>
-        ensures { IfOk result (λ b. b ≡ bytes.now) }
+        ensures same { IfOk result (λ b. b ≡ bytes.now) }
     {
         let inner = Vec::from_slice(alloc, bytes)?;
         Ok(Bytes { inner })
@@ -58,6 +58,11 @@ impl Bytes {
         ensures { result.now ≡ self.now }
     {
         self.inner.as_slice()
+    }
+
+    /// The allocator that the bytes keep. It takes no memory.
+    pub fn allocator(&self) -> Global {
+        *self.inner.allocator()
     }
 
     /// How many bytes there are.
@@ -100,7 +105,7 @@ impl Bytes {
 
     /// An equal value, on the same allocator.
     pub fn copy(&self) -> Result<Bytes, AllocError>
-        ensures { IfOk result (λ b. b ≡ self.now) }
+        ensures equal { IfOk result (λ b. b ≡ self.now) }
     {
         Bytes::from_slice(*self.inner.allocator(), self.as_slice())
     }

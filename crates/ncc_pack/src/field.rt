@@ -3,7 +3,8 @@
 ghost use Rattle.std.specs.Prelude.{◌≡◌, ◌++◌, ◌∷◌, [], take, drop, length, is_some, ◌<◌, ◌≤◌};
 ghost use Rattle.std.specs.Str.Lossy.{utf8_valid_len, utf8_error_len};
 ghost use Rattle.std.specs.Int.{w8, w16, w32, w64, from_be_bytes};
-ghost use Rattle.ncc_pack.specs.Reading.{Gives, number_at, size_at, bytes_at, text_at, id_at, key_at, label_at, tag_at, other_kind, sequence_len, cut_text};
+ghost use Rattle.ncc_pack.specs.Reading.{Gives, number_at, size_at, bytes_at, text_at, id_at, key_at, label_at, tag_at, other_kind};
+ghost use Rattle.ncc_pack.specs.Reading.{sequence_len, cut_text};
 
 use crate::bytes::Bytes;
 use crate::error::PackError;

@@ -13,7 +13,7 @@ use std::alloc::AllocError;
 use std::collections::BTreeSet;
 
 // Up to so many pairs, a search through the earlier keys is faster than a set.
-const FEW: usize = 8;
+pub(crate) const FEW: usize = 8;
 
 // Every integer fits.
 fn int_fits(number: i64) -> bool
@@ -31,7 +31,7 @@ pub(crate) fn text_fits(text: &Text) -> bool
 }
 
 /// Says whether one of the pairs has this key.
-fn has_key(pairs: &[(Text, Value)], key: &str) -> bool
+pub(crate) fn has_key(pairs: &[(Text, Value)], key: &str) -> bool
     ensures { result ≡ list_any (bytes_eq key.now) (keys pairs.now) }
 {
     for pair in pairs {
@@ -184,7 +184,7 @@ impl Value {
     /// lists, dictionaries and nodes nest at most 32 deep (a node takes two levels, for its labels), no dictionary has a
     /// key twice, and labels are texts.
     pub fn fits(&self) -> bool
-        ensures { result ≡ fits self.now }
+        ensures exact { result ≡ fits self.now }
     {
         value_fits(self, MAX_DEPTH)
     }

@@ -14,8 +14,6 @@ mod read;
 mod roomy;
 mod sequence;
 mod size;
-#[cfg(test)]
-mod tests;
 mod text;
 mod value;
 mod write;

@@ -35,7 +35,7 @@ impl<T> Sequence<T> {
 
     /// No elements, with room for so many.
     pub fn with_capacity(alloc: Global, capacity: usize) -> Result<Sequence<T>, AllocError>
-        ensures { IfOk result (λ s. s ≡ []) }
+        ensures empty { IfOk result (λ s. s ≡ []) }
     {
         let inner = Vec::with_capacity(alloc, capacity)?;
         Ok(Sequence { inner })
@@ -43,14 +43,14 @@ impl<T> Sequence<T> {
 
     /// The elements of a `Vec`. It takes no memory.
     pub fn from_vec(inner: Vec<T>) -> Sequence<T>
-        ensures { result ≡ inner.items }
+        ensures same { result ≡ inner.items }
     {
         Sequence { inner }
     }
 
     /// The elements as a `Vec`. It takes no memory.
     pub fn into_vec(self) -> Vec<T>
-        ensures { result.items ≡ self }
+        ensures same { result.items ≡ self }
     {
         let Sequence { inner } = self;
         inner

@@ -37,7 +37,7 @@ impl Text {
 
     /// A copy of this text.
     pub fn from_str(alloc: Global, text: &str) -> Result<Text, AllocError>
-        ensures { IfOk result (λ t. t ≡ text.now) }
+        ensures same { IfOk result (λ t. t ≡ text.now) }
     {
         let inner = String::from_str(alloc, text)?;
         Ok(Text { inner })
@@ -74,7 +74,7 @@ impl Text {
 
     /// An equal value, on the same allocator.
     pub fn copy(&self) -> Result<Text, AllocError>
-        ensures { IfOk result (λ t. t ≡ self.now) }
+        ensures equal { IfOk result (λ t. t ≡ self.now) }
     {
         Text::from_str(*self.inner.allocator(), self.as_str())
     }

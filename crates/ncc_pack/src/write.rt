@@ -22,7 +22,8 @@ pub(crate) fn make_room(len: u64, into: &mut Vec<u8>) -> Result<(), AllocError>
     ensures len { vec_len into.new ≡ vec_len into.old }
     ensures capacity { vec_capacity into.old ≤ vec_capacity into.new }
     ensures ok { (wanted : ℕ) → len ≡ min wanted (2 ^ 64 - 1) → OnOk result (vec_len into.new + wanted ≤ vec_capacity into.new) }
-    ensures roomy { (wanted : ℕ) → len ≡ min wanted (2 ^ 64 - 1) → vec_len into.old + wanted ≤ vec_capacity into.old → IsOk result }
+    ensures roomy { (wanted : ℕ) → len ≡ min wanted (2 ^ 64 - 1) → vec_len into.old + wanted ≤ vec_capacity into.old
+        → IsOk result }
 {
     if len > isize::MAX as u64 {
         return Err(AllocError);
