@@ -14,3 +14,4 @@ pub mod Outcome
 pub mod Parsed
 pub mod Writing
 pub mod Print
+pub mod Printer

@@ -17,8 +17,6 @@ mod slice;
 mod state;
 mod step;
 mod sum;
-#[cfg(test)]
-mod tests;
 mod text;
 mod token;
 mod tree;

@@ -31,7 +31,7 @@ wide_size mark n _ (s.one lt) = omega arith
 wide_size mark n _ (s.two lt) = omega arith
 wide_size mark n _ (s.four le) = le
 
-head_size : (kind : Kind) (n : ℕ) (h : List ℕ) → IsHead kind n h → n ≤ max_size
+pub head_size : (kind : Kind) (n : ℕ) (h : List ℕ) → IsHead kind n h → n ≤ max_size
 head_size kind n _ (s.tiny lt) = omega arith
 head_size kind n _ (s.wide h w) = wide_size kind.wide n h w
 

@@ -37,7 +37,7 @@ pub record Heads (of : Size → Mark) (n : ℕ) (h : List ℕ) : Type 0 where
   pub marks : marker mark ≡ of size
   pub reads : (at : ℕ) (rest : List ℕ) → size_at at size (more ++ rest) ≡ Ok (n, rest)
 
-four_again : (n at : ℕ) (rest : List ℕ) → n ≤ max_size → size_at at Four (to_be_bytes w32 n ++ rest) ≡ Ok (n, rest)
+pub four_again : (n at : ℕ) (rest : List ℕ) → n ≤ max_size → size_at at Four (to_be_bytes w32 n ++ rest) ≡ Ok (n, rest)
 unfolding size_at
 four_again n at rest le =
     let b = to_be_bytes w32 n in
@@ -315,7 +315,7 @@ dict_again total inside R h ps b both =
 
 -- ---- nodes
 
-labels_again : (total : ℕ) (xs : List Value) (b rest : List ℕ) → Listed lists Label xs b → labels_at total (b ++ rest) ≡ Ok (xs, rest)
+pub labels_again : (total : ℕ) (xs : List Value) (b rest : List ℕ) → Listed lists Label xs b → labels_at total (b ++ rest) ≡ Ok (xs, rest)
 unfolding labels_at
 labels_again total xs b rest sp =
     let hd = list_head (length xs) sp.0 sp.2 in

@@ -51,14 +51,15 @@ alone R x m mark bytes y sp says fits e =
     subst (λ (z : _ × List ℕ). Takes R (m ∷ bytes) z) e (record
     { front = mark ∷ []; spells = sp; parts = ap (λ (z : ℕ). z ∷ bytes) says; rest_fits = fits })
 
-IsBytes-rest : (b : ℕ) (bytes : List ℕ) → IsBytes (b ∷ bytes) → IsBytes bytes
+pub IsBytes-rest : (b : ℕ) (bytes : List ℕ) → IsBytes (b ∷ bytes) → IsBytes bytes
 IsBytes-rest b bytes h i = h (suc i)
 
-guard_err : {A : Type 0} (b : Bool) (d : PackError) (r : Result A PackError) (y : A) → cond b (Err d) r ≡ Ok y → (b ≡ false) × (r ≡ Ok y)
+pub guard_err : {A : Type 0} (b : Bool) (d : PackError) (r : Result A PackError) (y : A) → cond b (Err d) r ≡ Ok y → (b ≡ false)
+    × (r ≡ Ok y)
 guard_err true d r y e = absurd cc
 guard_err false d r y e = (refl, e)
 
-guard_then : {A : Type 0} (b : Bool) (d : PackError) (x y : A) → cond b (Ok x) (Err d) ≡ Ok y → (b ≡ true) × (x ≡ y)
+pub guard_then : {A : Type 0} (b : Bool) (d : PackError) (x y : A) → cond b (Ok x) (Err d) ≡ Ok y → (b ≡ true) × (x ≡ y)
 guard_then true d x y e = (refl, cc)
 guard_then false d x y e = absurd cc
 
@@ -72,7 +73,7 @@ marked_taken R total f h (m ∷ bytes) y fits e = h m _ (marker m) bytes y (says
 
 -- ---- sizes
 
-wide_taken : (mark m at : ℕ) (size : Size) (bytes : List ℕ) (y : ℕ × List ℕ) → WideSays mark m size → IsBytes bytes
+pub wide_taken : (mark m at : ℕ) (size : Size) (bytes : List ℕ) (y : ℕ × List ℕ) → WideSays mark m size → IsBytes bytes
     → size_at at size bytes ≡ Ok y → Takes (IsWide mark) (m ∷ bytes) y
 unfolding size_at
 wide_taken mark m at (Here n) bytes y says fits e = absurd says
@@ -109,7 +110,7 @@ wide_taken mark m at Four bytes y says fits e =
       rest_fits = t.0.rest_fits;
     }
 
-size_taken : (kind : Kind) (m at : ℕ) (size : Size) (bytes : List ℕ) (y : ℕ × List ℕ) → SizeSays kind m size → IsBytes bytes
+pub size_taken : (kind : Kind) (m at : ℕ) (size : Size) (bytes : List ℕ) (y : ℕ × List ℕ) → SizeSays kind m size → IsBytes bytes
     → size_at at size bytes ≡ Ok y → Takes (IsHead kind) (m ∷ bytes) y
 unfolding size_at
 size_taken kind m at (Here n) bytes y says fits e = alone (IsHead kind) n m (kind.tiny + n) bytes y (s.tiny says.0) says.1 fits
@@ -160,7 +161,7 @@ id_by_taken m at k.Node bytes y says fits e = absurd cc
 id_by_taken m at k.Float bytes y says fits e = absurd cc
 id_by_taken m at k.Bad bytes y says fits e = absurd cc
 
-id_taken : (total : ℕ) (bytes : List ℕ) (y : ℤ × List ℕ) → IsBytes bytes → id_at total bytes ≡ Ok y → Takes SpellsInt bytes y
+pub id_taken : (total : ℕ) (bytes : List ℕ) (y : ℤ × List ℕ) → IsBytes bytes → id_at total bytes ≡ Ok y → Takes SpellsInt bytes y
 unfolding id_at
 id_taken total bytes y fits e = marked_taken SpellsInt total id_by id_by_taken bytes y fits e
 
@@ -229,7 +230,7 @@ key_by_taken total m at k.Node bytes y says fits e = absurd cc
 key_by_taken total m at k.Float bytes y says fits e = absurd cc
 key_by_taken total m at k.Bad bytes y says fits e = absurd cc
 
-key_taken : (total : ℕ) (bytes : List ℕ) (y : List ℕ × List ℕ) → IsBytes bytes → key_at total bytes ≡ Ok y → Takes SpellsText bytes y
+pub key_taken : (total : ℕ) (bytes : List ℕ) (y : List ℕ × List ℕ) → IsBytes bytes → key_at total bytes ≡ Ok y → Takes SpellsText bytes y
 unfolding key_at
 key_taken total bytes y fits e = marked_taken SpellsText total (key_by total) (key_by_taken total) bytes y fits e
 
@@ -252,7 +253,7 @@ label_by_taken total m at k.Node bytes y says fits e = absurd cc
 label_by_taken total m at k.Float bytes y says fits e = absurd cc
 label_by_taken total m at k.Bad bytes y says fits e = absurd cc
 
-label_taken : (total : ℕ) (bytes : List ℕ) (y : Value × List ℕ) → IsBytes bytes → label_at total bytes ≡ Ok y → Takes Label bytes y
+pub label_taken : (total : ℕ) (bytes : List ℕ) (y : Value × List ℕ) → IsBytes bytes → label_at total bytes ≡ Ok y → Takes Label bytes y
 unfolding label_at
 label_taken total bytes y fits e = marked_taken Label total (label_by total) (label_by_taken total) bytes y fits e
 
@@ -462,7 +463,7 @@ labels_by_taken total m at k.Node bytes y says fits e = absurd cc
 labels_by_taken total m at k.Float bytes y says fits e = absurd cc
 labels_by_taken total m at k.Bad bytes y says fits e = absurd cc
 
-labels_taken : (total : ℕ) (bytes : List ℕ) (y : List Value × List ℕ) → IsBytes bytes → labels_at total bytes ≡ Ok y
+pub labels_taken : (total : ℕ) (bytes : List ℕ) (y : List Value × List ℕ) → IsBytes bytes → labels_at total bytes ≡ Ok y
     → Takes (Listed lists Label) bytes y
 unfolding labels_at
 labels_taken total bytes y fits e = marked_taken (Listed lists Label) total (labels_by total) (labels_by_taken total) bytes y fits e
@@ -485,13 +486,13 @@ props_by_taken inside spelled h m at k.Node bytes y says fits e = absurd cc
 props_by_taken inside spelled h m at k.Float bytes y says fits e = absurd cc
 props_by_taken inside spelled h m at k.Bad bytes y says fits e = absurd cc
 
-props_taken : (total : ℕ) (inside : Holders) (spelled : List (List ℕ × Value) → List ℕ → Type 0) → SizedTaken dicts inside.dict spelled
+pub props_taken : (total : ℕ) (inside : Holders) (spelled : List (List ℕ × Value) → List ℕ → Type 0) → SizedTaken dicts inside.dict spelled
     → (bytes : List ℕ) (y : List (List ℕ × Value) × List ℕ) → IsBytes bytes → props_at total inside bytes ≡ Ok y → Takes spelled bytes y
 unfolding props_at
 props_taken total inside spelled h bytes y fits e = marked_taken spelled total (props_by inside)
     (props_by_taken inside spelled h) bytes y fits e
 
-tag_taken : (total : ℕ) (bytes after : List ℕ) → IsBytes bytes → tag_at total bytes ≡ Ok after → (bytes ≡ 0x4E ∷ after) × IsBytes after
+pub tag_taken : (total : ℕ) (bytes after : List ℕ) → IsBytes bytes → tag_at total bytes ≡ Ok after → (bytes ≡ 0x4E ∷ after) × IsBytes after
 unfolding tag_at
 tag_taken total [] after fits e = absurd cc
 tag_taken total (t ∷ bytes) after fits e =

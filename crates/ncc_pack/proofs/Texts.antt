@@ -13,7 +13,7 @@ stays : (b : Bool) (x y : ℕ) → cond b x y ≡ x → y < x → b ≡ true
 stays true x y e lt = refl
 stays false x y e lt = absurd (omega arith)
 
-no_error : utf8_error_len [] ≡ None
+pub no_error : utf8_error_len [] ≡ None
 unfolding utf8_error_len
 no_error = refl
 

@@ -1,4 +1,4 @@
--- The limits on sizes and on nesting.
+-- The limits on sizes and on nesting. PackStream version 1 ("Representation") has sizes of up to 32 bits; these are ours.
 use Rattle.std.specs.Prelude.{ℕ}
 
 -- the greatest size of a text, of bytes, of a list and of a dictionary

@@ -1,4 +1,4 @@
--- Reading from left to right, up to the first fault that stands in the bytes.
+-- Reading from left to right (PackStream version 1, "Representation"), up to the first fault that stands in the bytes.
 use Rattle.std.specs.Prelude.{◌≡◌, ℕ, zero, suc, ◌+◌, ◌-◌, ℤ, List, [], ◌∷◌, ◌++◌, length, take, drop, is_some, Result, Ok, Err, nat_lt}
 use Rattle.std.specs.Prelude.{◌==◌, ◌||◌, if◌then◌else◌}
 use Rattle.std.specs.Int.{Width, w8, w16, w32, w64, byte_len, from_be_bytes, cast_signed}

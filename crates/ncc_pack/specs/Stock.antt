@@ -1,4 +1,4 @@
--- A list with room for more.
+-- A list with room for more. It is no part of PackStream: lists of all crates are made of it.
 use Rattle.std.specs.Prelude.{ℕ, List, refl}
 use Rattle.std.specs.Coded.{Coded, code_by, coded×, coded_ℕ, coded_list}
 

@@ -1,4 +1,4 @@
--- What writing gives, and what its parts ask.
+-- What writing gives (a spelling, as PackStream version 1, "Representation", has it), and what its parts ask.
 use Rattle.std.specs.Prelude.{◌≡◌, ℕ, List, ◌++◌, map, IsTrue}
 use Rattle.ncc_pack.specs.declared.value.Value.{Value}
 use Rattle.ncc_pack.specs.declared.value.NodeValue.{NodeValue}

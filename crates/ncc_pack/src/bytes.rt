@@ -45,6 +45,15 @@ impl Bytes {
         inner
     }
 
+    /// The bytes as a `Vec`; none are left here. It copies nothing and takes no memory.
+    pub fn take(&mut self) -> Vec<u8>
+        ensures taken { result.items ≡ self.old }
+        ensures none { self.new ≡ [] }
+    {
+        let none = Vec::new(*self.inner.allocator());
+        std::mem::replace(&mut self.inner, none)
+    }
+
     /// A copy of these bytes.
     pub fn from_slice(alloc: Global, bytes: &[u8]) -> Result<Bytes, AllocError>
         ensures same { IfOk result (λ b. b ≡ bytes.now) }

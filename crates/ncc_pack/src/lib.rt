@@ -8,6 +8,7 @@ mod encoding;
 mod error;
 mod field;
 mod fit;
+mod law;
 mod limits;
 mod mark;
 mod read;
@@ -29,6 +30,7 @@ pub use encoding::{
     encode_text, encode_text_within, encode_values, encode_values_within, encode_within,
 };
 pub use error::PackError;
+pub use law::{placed_refusals, short_refusals, shortest};
 pub use read::{decode, decode_at, one_form};
 pub use roomy::Roomy;
 pub use sequence::Sequence;
