@@ -3,27 +3,33 @@ use Rattle.std.proofs.Common.{◌≡◌, ℕ, suc, ◌-◌, ◌<◌, true, ◌&&
 use Rattle.std.specs.Prelude.{IsTrue, nat_eq, nat_le}
 use Rattle.std.specs.List.{All, list_all}
 use Rattle.std.proofs.lemmas.List.{append-nil}
-use Rattle.ncc_pack.specs.declared.value.Value.{Value}
+use Rattle.ncc_pack.specs.declared.value.Value.{Value, fold-roll-Value}
 use Rattle.ncc_pack.specs.declared.value.Value.TheOpen.{Value-F}
 use Rattle.ncc_pack.specs.declared.value.Value.TheVariants as v
 use Rattle.ncc_pack.specs.declared.error.PackError.{PackError}
 use Rattle.ncc_pack.specs.declared.error.PackError.TheVariants as p
-use Rattle.ncc_pack.specs.Limits.{max_size}
+use Rattle.ncc_pack.specs.Limits.{max_depth, max_size}
 use Rattle.ncc_pack.specs.Fits.{Fit, fits, fits_within}
-use Rattle.ncc_pack.specs.Short.{short}
+use Rattle.ncc_pack.specs.Short.{node_step, short, short_step}
 use Rattle.ncc_pack.specs.Reading.{Fails, Gives, read_value}
 use Rattle.ncc_pack.proofs.Fields.{ok_is}
 use Rattle.ncc_pack.proofs.Loops.{all_at, both, fit_of}
 use Rattle.ncc_store.specs.declared.step.Step.{Step}
-use Rattle.ncc_tx.specs.declared.shape.Call.{Call}
+use Rattle.ncc_store.specs.declared.call.Call.{Call}
 use Rattle.ncc_tx.specs.declared.shape.Shape.{Shape}
 use Rattle.ncc_tx.specs.declared.shape.Shape.TheVariants as h
 use Rattle.ncc_tx.specs.declared.entry.Entry.{Entry}
 use Rattle.ncc_tx.specs.declared.entry.Entry.TheVariants as e
 use Rattle.ncc_tx.specs.declared.entry.EntryError.{EntryError}
 use Rattle.ncc_tx.specs.declared.entry.EntryError.TheVariants.{Pack, BadShape, Memory}
-use Rattle.ncc_tx.specs.Spelled.{IsShape, IsOrMemory, Refuses, StepsOrMemory, call_of, call_value, calls_value, entry_fits, paired, rows_value, shape_of, shape_value, spelled, told_value, whole}
-use Rattle.ncc_tx.proofs.Items.{list_by, parts}
+use Rattle.ncc_store.specs.Exec.{call_of}
+use Rattle.ncc_tx.specs.Spelled.{IsShape, IsOrMemory, Refuses, StepsOrMemory, call_value, calls_value, entry_fits, paired, rows_value, shape_of, shape_value, spelled, told_value, whole}
+use Rattle.ncc_pack.proofs.Laws.{one_form}
+use Rattle.ncc_pack.proofs.Trip.{short_is}
+use Rattle.ncc_tx.specs.Items.{entry_allowed}
+use Rattle.ncc_tx.proofs.ItemBytes.{allowed_by}
+use Rattle.ncc_tx.proofs.Steps.{same_steps}
+use Rattle.ncc_tx.proofs.Listed.{list_by, parts}
 use Rattle.ncc_tx.proofs.Layers.{list_same, text_same, dict_same, null_is_no_list}
 use Rattle.ncc_tx.proofs.Pairs.{whole_by}
 
@@ -175,3 +181,24 @@ made ss = Ok ss
 
 pub steps_answered : (x : Entry) (steps ss : List Step) (told : List (List (List Value))) → made steps ≡ made ss → x ≡ e.Tx ss told → okay x ≡ okay (e.Tx steps told)
 steps_answered x steps ss told same is = let one : steps ≡ ss = cc in ap okay (is ∙ ap (λ (s : List Step). e.Tx s told) (sym one))
+
+-- ---- an entry has one spelling
+
+same_entry : (x y : Entry) → shape_value (shape_of x) ≡ shape_value (shape_of y) → x ≡ y
+same_entry e.Noop e.Noop h = refl
+same_entry e.Noop (e.Tx ss ts) h = absurd (null_is_no_list _ h)
+same_entry (e.Tx ss ts) e.Noop h = absurd (null_is_no_list _ (sym h))
+same_entry (e.Tx ss ts) (e.Tx us ws) h =
+    let t = tx_same (map call_of ss) (map call_of us) ts ws h in
+    ap (λ (z : List Step). e.Tx z ts) (same_steps ss us t.0) ∙ ap (λ (z : List (List (List Value))). e.Tx us z) t.1
+
+pub one_entry : (x y : Entry) → IsTrue (entry_fits x) → IsTrue (entry_fits y) → spelled x ≡ spelled y → x ≡ y
+one_entry x y f g same =
+    let a = short_is max_depth (shape_value (shape_of x)) (shape_fits (shape_of x) f) in
+    let b = short_is max_depth (shape_value (shape_of y)) (shape_fits (shape_of y) g) in
+    same_entry x y (one_form max_depth (shape_value (shape_of x)) (shape_value (shape_of y)) (spelled x) (spelled y) [] [] a b (ap (λ (l : List ℕ). l ++ []) same)).0
+
+pub noop_is : IsTrue (entry_allowed e.Noop)
+noop_is =
+    let null : spelled e.Noop ≡ 0xC0 ∷ [] = ap short (sym v.rolls-Null) ∙ fold-roll-Value (List ℕ) (List ℕ) short_step node_step Value-F.Null in
+    allowed_by e.Noop refl (omega (arith, ap length null))

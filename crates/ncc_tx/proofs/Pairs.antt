@@ -1,5 +1,5 @@
 -- Lists of two values: their spelling and its length.
-use Rattle.std.proofs.Common.{◌≡◌, ℕ, suc, ◌+◌, min, List, [], ◌∷◌, ◌++◌, length, refl, sym, ap, ◌∙◌, append_assoc, arith}
+use Rattle.std.proofs.Common.{◌≡◌, ℕ, suc, ◌+◌, min, ◌<◌, ◌≤◌, List, [], ◌∷◌, ◌++◌, length, refl, sym, ap, ◌∙◌, append_assoc, arith}
 use Rattle.std.specs.Prelude.{IsTrue}
 use Rattle.std.proofs.lemmas.List.{append-nil, length-append}
 use Rattle.ncc_pack.specs.declared.value.Value.{Value}
@@ -36,3 +36,14 @@ two_adds x y t d s r e f g h = sum_of_two (length (short x)) (length (short y)) 
 -- what fits in a row fits by itself
 pub whole_by : ((x : Value) (d : ℕ) → IsTrue (fits_within x d) → IsTrue (fits_within x (suc d))) → (x : Value) → IsTrue (fits_within x 29) → IsTrue (fits x)
 whole_by deeper x h = deeper x 31 (deeper x 30 (deeper x 29 h))
+
+-- ---- what is left where the room is too small
+
+pub two_full : (x y : Value) (init one : List ℕ) (room now : ℕ) → one ≡ init ++ head lists 2 → room ≤ now → now < length one + length (short x) → room < length init + length (short (v.List (x ∷ y ∷ [])))
+two_full x y init one room now e le small = omega (arith, ap length e, length-append init (head lists 2), ap length two_head, two_length x y)
+
+pub two_full_behind : (x y : Value) (init one two : List ℕ) (room now : ℕ) → one ≡ init ++ head lists 2 → two ≡ one ++ short x → room ≤ now → now < length two + length (short y) → room < length init + length (short (v.List (x ∷ y ∷ [])))
+two_full_behind x y init one two room now e f le small = omega (arith, ap length e, ap length f, length-append init (head lists 2), length-append one (short x), ap length two_head, two_length x y)
+
+pub two_full_head : (x y : Value) (room len : ℕ) → room < len + length (head lists 2) → room < len + length (short (v.List (x ∷ y ∷ [])))
+two_full_head x y room len lt = omega (arith, ap length two_head, two_length x y)

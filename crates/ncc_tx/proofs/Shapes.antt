@@ -4,7 +4,7 @@ use Rattle.std.specs.Prelude.{IsTrue}
 use Rattle.std.proofs.lemmas.List.{length-map}
 use Rattle.ncc_pack.specs.declared.value.Value.{Value}
 use Rattle.ncc_pack.specs.declared.value.Value.TheVariants as v
-use Rattle.ncc_tx.specs.declared.shape.Call.{Call}
+use Rattle.ncc_store.specs.declared.call.Call.{Call}
 use Rattle.ncc_tx.specs.declared.shape.Shape.{Shape}
 use Rattle.ncc_tx.specs.declared.shape.Shape.TheVariants as h
 use Rattle.ncc_tx.specs.Spelled.{calls_value, call_value, told_value, rows_value, pair_value, shape_value, paired}

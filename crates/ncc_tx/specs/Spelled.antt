@@ -8,9 +8,10 @@ use Rattle.ncc_pack.specs.Fits.{fits}
 use Rattle.ncc_pack.specs.Short.{short}
 use Rattle.ncc_pack.specs.Reading.{read_value}
 use Rattle.ncc_cypher.specs.declared.tree.Statement.{Statement}
-use Rattle.ncc_cypher.specs.Spelled.{Spelled}
+use Rattle.ncc_cypher.specs.Parsed.{parsed}
 use Rattle.ncc_store.specs.declared.step.Step.{Step}
-use Rattle.ncc_tx.specs.declared.shape.Call.{Call}
+use Rattle.ncc_store.specs.Exec.{call_of}
+use Rattle.ncc_store.specs.declared.call.Call.{Call}
 use Rattle.ncc_tx.specs.declared.shape.Shape.{Shape}
 use Rattle.ncc_tx.specs.declared.shape.Shape.TheVariants as h
 use Rattle.ncc_tx.specs.declared.entry.Entry.{Entry}
@@ -41,9 +42,6 @@ shape_value (h.Tx calls told) = pair_value (calls_value calls, told_value told)
 abbrev pub whole : Shape → Bool
 whole h.Noop = true
 whole (h.Tx calls told) = nat_eq (length calls) (length told) && fits (shape_value (h.Tx calls told))
-
-abbrev pub call_of : Step → Call
-call_of s = record { source = s.source; params = s.params }
 
 abbrev pub shape_of : Entry → Shape
 shape_of e.Noop = h.Noop
@@ -79,7 +77,7 @@ pub record IsShape (s : Shape) (bytes : List ℕ) : Type 0 where
 
 -- the source spells a statement
 abbrev pub Parses : Call → Type 0
-Parses c = (s : Statement) × Spelled s c.source
+Parses c = (s : Statement) × (parsed c.source ≡ Ok s)
 
 -- the calls before this one parse, and it does not
 pub data Fails : ℕ → List Call → Type 0 where
@@ -93,7 +91,7 @@ IsStepsOf calls (Err (BadStatement n)) = Fails n calls
 IsStepsOf calls (Err Memory) = Unit {0}
 IsStepsOf calls (Err e) = ⊥
 
--- these steps, or want of memory
+-- these steps, unless memory runs out
 abbrev pub StepsOrMemory : List Step → Result (List Step) EntryError → Type 0
 StepsOrMemory ss (Err Memory) = Unit {0}
 StepsOrMemory ss r = r ≡ Ok ss
@@ -107,7 +105,7 @@ Refuses bytes BadShape = (x : Value) × (rest : List ℕ) × (read_value bytes �
 Refuses bytes (BadStatement n) = (calls : List Call) × (told : List (List (List Value))) × IsShape (h.Tx calls told) bytes × Fails n calls
 Refuses bytes Memory = Unit {0}
 
--- the first, or want of memory
+-- the first, unless memory runs out
 abbrev pub IsOrMemory : Result Entry EntryError → Result Entry EntryError → Type 0
 IsOrMemory (Err Memory) r = Unit {0}
 IsOrMemory (Err e) r = r ≡ Err e

@@ -1,5 +1,6 @@
 use Rattle.std.proofs.Common.{map}
-use Rattle.ncc_tx.specs.Spelled.{call_of, calls_value, told_value}
+use Rattle.ncc_store.specs.Exec.{call_of}
+use Rattle.ncc_tx.specs.Spelled.{calls_value, told_value}
 use Rattle.ncc_tx.proofs.Pairs.{two_adds}
 use Rattle.ncc_tx.proofs.write.entry_len.Goals as goal
 

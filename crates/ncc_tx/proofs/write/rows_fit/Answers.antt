@@ -1,6 +1,6 @@
 use Rattle.std.proofs.Common.{sym, ◌∙◌, arith}
 use Rattle.ncc_pack.specs.declared.value.Value.TheVariants as v
-use Rattle.ncc_tx.proofs.Items.{none_fits, all_fit}
+use Rattle.ncc_tx.proofs.Listed.{none_fits, all_fit}
 use Rattle.ncc_tx.proofs.write.rows_fit.Goals as goal
 
 pub returns-then-not-values_fit_within : goal.returns-then-not-values_fit_within

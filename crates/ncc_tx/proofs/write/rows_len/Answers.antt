@@ -1,7 +1,7 @@
 use Rattle.std.proofs.Common.{min, length, ap, ◌∙◌, arith}
 use Rattle.ncc_pack.specs.declared.value.Value.TheVariants as v
 use Rattle.ncc_pack.proofs.Sizes.{greatest}
-use Rattle.ncc_tx.proofs.Items.{item_fits, adds, ends}
+use Rattle.ncc_tx.proofs.Listed.{item_fits, adds, ends}
 use Rattle.ncc_tx.proofs.Pairs.{whole_by}
 use Rattle.ncc_tx.proofs.write.rows_len.Goals as goal
 

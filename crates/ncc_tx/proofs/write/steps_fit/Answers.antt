@@ -1,5 +1,5 @@
 use Rattle.std.proofs.Common.{sym, ◌∙◌, arith}
-use Rattle.ncc_tx.proofs.Items.{none_fits, all_fit}
+use Rattle.ncc_tx.proofs.Listed.{none_fits, all_fit}
 use Rattle.ncc_tx.proofs.Steps.{step_value, steps_are}
 use Rattle.ncc_tx.proofs.write.steps_fit.Goals as goal
 

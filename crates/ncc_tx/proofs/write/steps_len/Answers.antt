@@ -1,7 +1,7 @@
 use Rattle.std.proofs.Common.{min, length, ap, ◌∙◌, arith}
 use Rattle.ncc_tx.proofs.Steps.{step_value, steps_are}
 use Rattle.ncc_pack.proofs.Sizes.{greatest}
-use Rattle.ncc_tx.proofs.Items.{item_fits, adds, ends}
+use Rattle.ncc_tx.proofs.Listed.{item_fits, adds, ends}
 use Rattle.ncc_tx.proofs.write.steps_len.Goals as goal
 
 pub step_len-requires : goal.step_len-requires

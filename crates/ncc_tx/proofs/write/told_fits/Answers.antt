@@ -1,6 +1,6 @@
 use Rattle.std.proofs.Common.{sym, ◌∙◌, arith}
 use Rattle.ncc_tx.specs.Spelled.{rows_value}
-use Rattle.ncc_tx.proofs.Items.{none_fits, all_fit}
+use Rattle.ncc_tx.proofs.Listed.{none_fits, all_fit}
 use Rattle.ncc_tx.proofs.write.told_fits.Goals as goal
 
 pub returns-then-not-rows_fit : goal.returns-then-not-rows_fit

@@ -1,7 +1,7 @@
 use Rattle.std.proofs.Common.{min, length, ap, ◌∙◌, arith}
 use Rattle.ncc_tx.specs.Spelled.{rows_value}
 use Rattle.ncc_pack.proofs.Sizes.{greatest}
-use Rattle.ncc_tx.proofs.Items.{item_fits, adds, ends}
+use Rattle.ncc_tx.proofs.Listed.{item_fits, adds, ends}
 use Rattle.ncc_tx.proofs.write.told_len.Goals as goal
 
 pub rows_len-requires : goal.rows_len-requires

@@ -1,0 +1,8 @@
+use Rattle.std.proofs.Common.{◌+◌, length, vec_capacity}
+use Rattle.ncc_pack.specs.declared.value.Value.TheVariants as v
+use Rattle.ncc_pack.specs.Short.{short}
+use Rattle.ncc_tx.proofs.ItemBytes.{full_of}
+use Rattle.ncc_tx.proofs.write.put_dict.Goals as goal
+
+pub returns-clause-full : goal.returns-clause-full
+returns-clause-full c = full_of c.encode_dict_within.result (length c.args.into.now.items + length (short (v.Dict c.args.dict.now))) (vec_capacity c.args.into.now) c.encode_dict_within.ensures.roomy
