@@ -12,9 +12,11 @@ pub record Supply : Type 0 where
   pub faults : ℕ
 
 -- a sink in memory
-pub record Store : Type 0 where
+pub record Received : Type 0 where
   -- the bytes that it took
   pub held : List ℕ
+  -- those of them that were flushed
+  pub flushed : List ℕ
   -- the numbers of the calls that fail, from 1
   pub failing : List ℕ
   -- the calls so far, writes and flushes alike

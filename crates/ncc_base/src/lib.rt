@@ -1,6 +1,10 @@
 //! What the programs read from and write to, with what each object means for the contracts above it.
 #![tactic(auto)]
 
+mod bytes;
+mod disk;
+mod file_disk;
+mod mem_disk;
 mod memory;
 mod sink;
 mod source;
@@ -8,6 +12,10 @@ mod standard;
 #[cfg(test)]
 mod tests;
 
+pub use bytes::Bytes;
+pub use disk::{Armed, Disk, DiskError};
+pub use file_disk::FileDisk;
+pub use mem_disk::MemDisk;
 pub use memory::{MemSink, MemSource};
 pub use sink::{Sink, SinkError};
 pub use source::{Failed, Source};

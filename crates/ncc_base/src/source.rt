@@ -20,12 +20,13 @@ pub trait Source {
     ghost faults: { Self → ℕ };
 
     /// Puts bytes in front of the slice, and answers how many. None for a slice that is not empty is the end.
-    /// A failed read takes no byte.
+    /// A failed read takes no byte, and leaves the slice as it was.
     fn read(&mut self, into: &mut [u8]) -> Result<usize, Failed>
         ensures count { IfOk result (λ n. n ≤ length into.new) }
         ensures ok { IfOk result (λ n. Consumes (left self.old) (left self.new) (take n into.new)) }
         ensures end { IfOk result (λ n. n ≡ 0 → 0 < length into.new → IsAtEnd (left self.new)) }
         ensures err { OnErr result (left self.new ≡ left self.old) }
+        ensures slice { OnErr result (into.new ≡ into.old) }
         ensures never_falls { faults self.old ≤ faults self.new }
         ensures failed { OnErr result (Rose (faults self.old) (faults self.new)) };
 }

@@ -8,6 +8,9 @@ use crate::source::{Failed, Source};
 use std::io::{Read, Write};
 use std::marker::Model;
 
+// How many bytes one read takes at most.
+const MOST_AT_ONCE: usize = 8192;
+
 /// A source over a reader, such as standard input. A contract sees the count of its faults.
 #[derive(Drop)]
 pub struct StdSource<I> {
@@ -26,7 +29,7 @@ impl<I> Model for StdSource<I> {
 impl<I> StdSource<I> {
     /// A source over this reader. Its count of faults is 0.
     pub fn new(inner: I) -> StdSource<I>
-        ensures { result ≡ 0 }
+        ensures no_faults { result ≡ 0 }
     {
         StdSource { inner, faults: 0 }
     }
@@ -37,9 +40,15 @@ impl<I: Read> Source for StdSource<I> {
 
     ghost faults = { λ faults. faults };
 
+    // A reader may write into the slice that it is given and fail then, so it is given another one.
     fn read(&mut self, into: &mut [u8]) -> Result<usize, Failed> {
-        match self.inner.read(into) {
-            Ok(count) => Ok(count),
+        let mut buffer = [0u8; MOST_AT_ONCE];
+        let room = into.len().min(MOST_AT_ONCE);
+        match self.inner.read(&mut buffer[..room]) {
+            Ok(count) => {
+                into[..count].copy_from_slice(&buffer[..count]);
+                Ok(count)
+            }
             Err(_) => {
                 self.faults = self.faults.saturating_add(1);
                 Err(Failed)
@@ -66,7 +75,7 @@ impl<O> Model for StdSink<O> {
 impl<O> StdSink<O> {
     /// A sink over this writer. Its count of faults is 0.
     pub fn new(inner: O) -> StdSink<O>
-        ensures { result ≡ 0 }
+        ensures no_faults { result ≡ 0 }
     {
         StdSink { inner, faults: 0 }
     }
@@ -74,6 +83,8 @@ impl<O> StdSink<O> {
 
 impl<O: Write> Sink for StdSink<O> {
     ghost held = { λ _. None };
+
+    ghost flushed = { λ _. None };
 
     ghost faults = { λ faults. faults };
 

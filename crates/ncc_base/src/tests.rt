@@ -1,9 +1,13 @@
 //! The objects in memory, and those over std's readers and writers, which no contract can see into.
 
-use crate::{Failed, MemSink, MemSource, Sink, SinkError, Source, StdSink, StdSource};
-use std::io;
+use crate::{
+    Disk, Failed, FileDisk, MemDisk, MemSink, MemSource, Sink, SinkError, Source, StdSink,
+    StdSource,
+};
+use std::fs::File;
 use std::io::{Read, Write};
 use std::test::Fail;
+use std::{env, fs, io};
 
 #[test]
 fn reads_from_memory(rt: HostRuntime) -> Result<(), Fail> {
@@ -27,12 +31,14 @@ fn reads_from_memory(rt: HostRuntime) -> Result<(), Fail> {
 fn writes_to_memory(rt: HostRuntime) -> Result<(), Fail> {
     let mut sink = MemSink::new(rt.alloc(), &[2, 4])?;
     assert_eq!(rt; sink.held().len(), 0);
+    assert_eq!(rt; sink.flushed().len(), 0);
     assert_eq!(rt; sink.write(&[1, 2]), Ok(()));
     assert_eq!(rt; sink.write(&[3]), Err(SinkError::Failed));
     assert_eq!(rt; sink.flush(), Ok(()));
     assert_eq!(rt; sink.flush(), Err(Failed));
     assert_eq!(rt; sink.write(&[4]), Ok(()));
     assert_eq!(rt; sink.held(), [1u8, 2, 4].as_slice());
+    assert_eq!(rt; sink.flushed(), [1u8, 2].as_slice());
     Ok(())
 }
 
@@ -109,5 +115,57 @@ fn writes_to_a_writer(rt: HostRuntime) -> Result<(), Fail> {
     assert_eq!(rt; sink.flush(), Ok(()));
     assert_eq!(rt; sink.flush(), Err(Failed));
     assert_eq!(rt; sink.flush(), Ok(()));
+    Ok(())
+}
+
+#[test]
+fn crashes_by_word(rt: HostRuntime) -> Result<(), Fail> {
+    // The first two words of `Pcg32::seed_from_u64(7)` have the low bytes E9 and BE.
+    let table: [(u64, &[u8]); 3] = [(0, &[1]), (1, &[2, 3]), (7, &[0xE9, 0xBE])];
+    for (word, left) in table {
+        // A byte that is stable, and two that are written over it and not yet synced.
+        let mut disk = MemDisk::new(rt.alloc())?;
+        disk.reserve(4, 8)?;
+        assert_eq!(rt; disk.write(0, &[1]), Ok(()));
+        assert_eq!(rt; disk.sync(), Ok(()));
+        assert_eq!(rt; disk.write(0, &[2, 3]), Ok(()));
+        disk.crash(word)?;
+        assert_eq!(rt;
+            disk.read(rt.alloc(), 0, 9)?.as_slice(),
+            left,
+            "after the word {word}"
+        );
+        assert_eq!(rt; disk.faults(), 0);
+    }
+    Ok(())
+}
+
+#[test]
+fn keeps_bytes_in_a_file(rt: HostRuntime) -> Result<(), Fail> {
+    let mut path = env::temp_dir(&rt)?;
+    path.push("hunkesha_disk_in_a_test")?;
+    let mut disk = FileDisk::new(
+        File::options()
+            .read(true)
+            .write(true)
+            .create(true)
+            .truncate(true)
+            .open(&rt, &path)?,
+    );
+    disk.reserve(9, 9)?;
+    assert_eq!(rt; disk.write(0, &[7, 8]), Ok(()));
+    assert_eq!(rt; disk.write(2, &[9]), Ok(()));
+    assert_eq!(rt; disk.sync(), Ok(()));
+    assert_eq!(rt; disk.size(), Ok(3));
+    assert_eq!(rt;
+        disk.read(rt.alloc(), 1, 9)?.as_slice(),
+        [8u8, 9].as_slice()
+    );
+    let mut shut = FileDisk::new(File::open(&rt, &path)?);
+    shut.reserve(9, 9)?;
+    assert_eq!(rt; shut.write(0, &[1]), Err(Failed));
+    assert_eq!(rt; shut.faults(), 1);
+    assert_eq!(rt; shut.read(rt.alloc(), 0, 1)?.as_slice(), [7u8].as_slice());
+    fs::remove_file(&rt, &path)?;
     Ok(())
 }

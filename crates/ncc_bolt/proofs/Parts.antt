@@ -1,6 +1,7 @@
 -- Fields that are spelled are read, whatever follows, and fields that are read are spelled so.
-use Rattle.std.proofs.Common.{◌≡◌, ℕ, ◌+◌, List, [], ◌∷◌, ◌++◌, length, drop, Result, Ok, Err, refl, sym, ap, ◌∙◌, append_assoc, subst, arith}
-use Rattle.std.proofs.lemmas.List.{append-nil}
+use Rattle.std.proofs.Common.{◌≡◌, ℕ, ◌+◌, ◌-◌, ◌≤◌, List, [], ◌∷◌, ◌++◌, length, drop, Result, Ok, Err, refl, sym, ap, ◌∙◌}
+use Rattle.std.proofs.Common.{append_assoc, subst, arith}
+use Rattle.std.proofs.lemmas.List.{append-nil, length-drop}
 use Rattle.ncc_pack.specs.declared.value.Value.{Value, out-Value, roll-Value, roll-out-Value, out-roll-Value}
 use Rattle.ncc_pack.specs.declared.value.Value.TheVariants as v
 use Rattle.ncc_pack.specs.declared.value.Value.TheOpen.{Value-F}
@@ -20,7 +21,8 @@ use Rattle.ncc_bolt.specs.Reading.{◌>>=◌, as_message, spelled_at, held_in, h
 -- ---- steps
 
 -- the value of a step that did not fail
-pub bind_ok : {A B : Type 0} (r : Result A MessageError) (f : A → Result B MessageError) (y : B) → (r >>= f) ≡ Ok y → (x : A) × (r ≡ Ok x) × (f x ≡ Ok y)
+pub bind_ok : {A B : Type 0} (r : Result A MessageError) (f : A → Result B MessageError) (y : B) → (r >>= f) ≡ Ok y → (x : A)
+    × (r ≡ Ok x) × (f x ≡ Ok y)
 bind_ok (Ok x) f y e = (x, refl, e)
 bind_ok (Err d) f y e = absurd cc
 
@@ -33,6 +35,10 @@ ok_is x y e = cc
 as_message_ok : {A : Type 0} (r : Result A PackError) (y : A) → as_message r ≡ Ok y → r ≡ Ok y
 as_message_ok (Ok x) y e = ap (λ (z : _). Ok z) (ok_is x y e)
 as_message_ok (Err d) y e = absurd cc
+
+-- bytes that are left begin at the length of all less that of these
+pub place_of_rest : (at : ℕ) (bytes : List ℕ) → at ≤ length bytes → length bytes - length (drop at bytes) ≡ at
+place_of_rest at bytes le = omega (arith, length-drop at bytes)
 
 -- ---- the kind of a value
 
@@ -50,23 +56,28 @@ layer_taken text e (Value-F.Text t) h is = v.rolls-Text t ∙ ap (λ (z : Held t
 layer_taken list e (Value-F.List xs) h is = v.rolls-List xs ∙ ap (λ (z : Held list). v.List z) (ok_is xs h is)
 layer_taken k e l h is = absurd cc
 
-held_taken : (k : Kind) (e : MessageError) (x : Value) (h : Held k) → held k e x ≡ Ok h → x ≡ value k h
+pub held_taken : (k : Kind) (e : MessageError) (x : Value) (h : Held k) → held k e x ≡ Ok h → x ≡ value k h
 held_taken k e x h is = sym (roll-out-Value x) ∙ layer_taken k e (out-Value x) h is
 
 -- ---- a field
 
-spelled_again : (total : ℕ) (x : Value) (b rest : List ℕ) → spells x b → spelled_at total (b ++ rest) ≡ Ok (x, rest)
+pub spelled_again : (total : ℕ) (x : Value) (b rest : List ℕ) → spells x b → spelled_at total (b ++ rest) ≡ Ok (x, rest)
 unfolding spelled_at
 spelled_again total x b rest s = ap as_message (value_again total max_depth x b rest s)
 
-pub field_again : (k : Kind) (total tag number : ℕ) (h : Held k) (b rest : List ℕ) → spells (value k h) b → field_at k total tag number (b ++ rest) ≡ Ok (h, rest)
+pub field_again : (k : Kind) (total tag number : ℕ) (h : Held k) (b rest : List ℕ) → spells (value k h) b →
+    field_at k total tag number (b ++ rest) ≡ Ok (h, rest)
 unfolding field_at
-field_again k total tag number h b rest s = rw (spelled_again total (value k h) b rest s, held_again k (WrongKind tag number) h) refl
+field_again k total tag number h b rest s = rw (
+  spelled_again total (value k h) b rest s,
+  held_again k (WrongKind tag number (total - length (b ++ rest))) h,
+) refl
 
 abbrev Spelled : Value → List ℕ → Type 0
 Spelled x b = spells x b
 
-pub field_taken : (k : Kind) (total tag number : ℕ) (bytes : List ℕ) (h : Held k) (rest : List ℕ) → IsBytes bytes → field_at k total tag number bytes ≡ Ok (h, rest)
+pub field_taken : (k : Kind) (total tag number : ℕ) (bytes : List ℕ) (h : Held k) (rest : List ℕ) → IsBytes bytes →
+    field_at k total tag number bytes ≡ Ok (h, rest)
     → Taken Spelled bytes (value k h) rest
 unfolding field_at spelled_at
 field_taken k total tag number bytes h rest fits e =
@@ -74,12 +85,13 @@ field_taken k total tag number bytes h rest fits e =
     let two = bind_ok _ _ (h, rest) one.2 in
     let t = value_taken total max_depth bytes one.0 fits (as_message_ok _ one.0 one.1) in
     let same = ok_is (two.0, one.0.1) (h, rest) two.2 in
-    let is : one.0.0 ≡ value k two.0 = held_taken k (WrongKind tag number) one.0.0 two.0 two.1 in
+    let is : one.0.0 ≡ value k two.0 = held_taken k (WrongKind tag number (total - length bytes)) one.0.0 two.0 two.1 in
     subst (λ (p : Held k × List ℕ). Taken Spelled bytes (value k p.0) p.1) same (subst (λ (x : Value). Taken Spelled bytes x one.0.1) is t)
 
 -- ---- fields
 
-pub fields_again : (ks : List Kind) (total tag number : ℕ) (fs : Fields ks) (b rest : List ℕ) → SpellsFields ks fs b → fields_at ks total tag number (b ++ rest) ≡ Ok (fs, rest)
+pub fields_again : (ks : List Kind) (total tag number : ℕ) (fs : Fields ks) (b rest : List ℕ) → SpellsFields ks fs b →
+    fields_at ks total tag number (b ++ rest) ≡ Ok (fs, rest)
 fields_again [] total tag number fs b rest e = rw e refl
 fields_again (k ∷ ks) total tag number fs b rest (c, e, s, more, parts) =
     let joined : b ++ rest ≡ c ++ (e ++ rest) = ap (λ (z : List ℕ). z ++ rest) parts ∙ append_assoc c e rest in
@@ -91,15 +103,21 @@ pub record Read (ks : List Kind) (bytes : List ℕ) (fs : Fields ks) (rest : Lis
   pub spells : SpellsFields ks fs front
   pub parts : bytes ≡ front ++ rest
 
-one_more : (k : Kind) (ks : List Kind) (bytes : List ℕ) (x : Held k) (a : List ℕ) (xs : Fields ks) (b : List ℕ) → Taken Spelled bytes (value k x) a → Read ks a xs b → Read (k ∷ ks) bytes (x, xs) b
+one_more : (k : Kind) (ks : List Kind) (bytes : List ℕ) (x : Held k) (a : List ℕ) (xs : Fields ks) (b : List ℕ) →
+    Taken Spelled bytes (value k x) a → Read ks a xs b → Read (k ∷ ks) bytes (x, xs) b
 one_more k ks bytes x a xs b t u = record {
   front = t.front ++ u.front;
   spells = (t.front, u.front, t.spells, u.spells, refl);
   parts = t.parts ∙ ap (λ (z : List ℕ). t.front ++ z) u.parts ∙ sym (append_assoc t.front u.front b);
 }
 
-pub fields_taken : (ks : List Kind) (total tag number : ℕ) (bytes : List ℕ) (fs : Fields ks) (rest : List ℕ) → IsBytes bytes → fields_at ks total tag number bytes ≡ Ok (fs, rest) → Read ks bytes fs rest
-fields_taken [] total tag number bytes fs rest fits e = record { front = []; spells = refl; parts = ap (λ (p : Unit {0} × List ℕ). p.1) (ok_is (tt, bytes) (fs, rest) e) }
+pub fields_taken : (ks : List Kind) (total tag number : ℕ) (bytes : List ℕ) (fs : Fields ks) (rest : List ℕ) → IsBytes bytes →
+    fields_at ks total tag number bytes ≡ Ok (fs, rest) → Read ks bytes fs rest
+fields_taken [] total tag number bytes fs rest fits e = record {
+  front = [];
+  spells = refl;
+  parts = ap (λ (p : Unit {0} × List ℕ). p.1) (ok_is (tt, bytes) (fs, rest) e);
+}
 fields_taken (k ∷ ks) total tag number bytes fs rest fits e =
     let one = bind_ok _ _ (fs, rest) e in
     let two = bind_ok _ _ (fs, rest) one.2 in

@@ -1,4 +1,4 @@
--- The fields of a message: the kinds that they may have, and what each holds.
+-- The fields of a message (Bolt 4.4, "Messages"): the kinds that they may have, and what each holds.
 use Rattle.std.specs.Prelude.{◌≡◌, ℕ, List, [], ◌∷◌, ◌++◌}
 use Rattle.ncc_pack.specs.declared.value.Value.{Value}
 use Rattle.ncc_pack.specs.declared.value.Value.TheVariants as v
@@ -34,4 +34,5 @@ Fields (k ∷ ks) = Held k × Fields ks
 -- each field spelled, one behind the other
 abbrev pub SpellsFields : (ks : List Kind) → Fields ks → List ℕ → Type 0
 SpellsFields [] fields b = b ≡ []
-SpellsFields (k ∷ ks) fields b = (c : List ℕ) × (e : List ℕ) × spells (value k fields.0) c × SpellsFields ks fields.1 e × (b ≡ c ++ e)
+SpellsFields (k ∷ ks) fields b =
+    (c : List ℕ) × (e : List ℕ) × spells (value k fields.0) c × SpellsFields ks fields.1 e × (b ≡ c ++ e)

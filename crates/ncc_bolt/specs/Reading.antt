@@ -1,6 +1,7 @@
--- Reading a message up to the first fault that stands in it: the marker, the tag, the number of fields, then the spelling and the
--- kind of each field in turn, then that nothing follows.
-use Rattle.std.specs.Prelude.{◌≡◌, ℕ, ◌+◌, ◌-◌, List, [], ◌∷◌, length, drop, Result, Ok, Err, nat_lt, ◌==◌, ◌||◌, if◌then◌else◌}
+-- Reading a message (Bolt 4.4, "Messages") up to the first fault that stands in it: the marker, the tag, the number of fields, then
+-- the spelling and the kind of each field in turn, then that nothing follows.
+use Rattle.std.specs.Prelude.{◌≡◌, ℕ, ◌+◌, ◌-◌, List, [], ◌∷◌, length, drop}
+use Rattle.std.specs.Prelude.{Result, Ok, Err, nat_lt, ◌==◌, ◌||◌, if◌then◌else◌}
 use Rattle.ncc_pack.specs.declared.value.Value.{Value, out-Value}
 use Rattle.ncc_pack.specs.declared.value.NodeValue.{NodeValue}
 use Rattle.ncc_pack.specs.declared.value.Value.TheOpen.{Value-F}
@@ -11,6 +12,7 @@ use Rattle.ncc_pack.specs.Limits.{max_depth}
 use Rattle.ncc_bolt.specs.declared.error.MessageError.{MessageError}
 use Rattle.ncc_bolt.specs.declared.error.MessageError.TheVariants.{Pack, UnknownTag, WrongFields, WrongKind, Rest, Memory}
 use Rattle.ncc_bolt.specs.Fields.{Kind, dictionary, text, list, Held, Fields}
+use Rattle.ncc_bolt.specs.Tags.{first_structure, last_structure}
 use Rattle.ncc_bolt.specs.Table.{Row, requests, responses}
 use Rattle.ncc_bolt.specs.declared.message.Request.{Request}
 use Rattle.ncc_bolt.specs.declared.message.Response.{Response}
@@ -34,6 +36,10 @@ abbrev pub Gives : {X Y : Type 0} → (X → Y) → Result X MessageError → Re
 Gives view (Ok x) read = read ≡ Ok (view x)
 Gives view (Err e) read = Fails e read
 
+-- It answered this, unless memory ran out.
+abbrev pub GivesOk : {M : Type 0} → Result M MessageError → M → Type 0
+GivesOk {M} result m = Gives {Y = M} (λ x. x) result (Ok m)
+
 -- the fault of a value is that of its message
 abbrev pub as_message : {A : Type 0} → Result A PackError → Result A MessageError
 as_message (Ok x) = Ok x
@@ -53,7 +59,8 @@ tag_at n (tag ∷ bytes) = Ok (n, tag)
 -- the number of fields, and the tag
 unfoldable pub head_at : List ℕ → Result (ℕ × ℕ) MessageError
 head_at [] = Err (Pack p.Short)
-head_at (m ∷ bytes) = if nat_lt m 0xB0 || nat_lt 0xBF m then Err (Pack (p.BadMarker 0)) else tag_at (m - 0xB0) bytes
+head_at (m ∷ bytes) =
+    if nat_lt m first_structure || nat_lt last_structure m then Err (Pack (p.BadMarker 0)) else tag_at (m - first_structure) bytes
 
 -- ---- fields, of so many bytes in all
 
@@ -71,13 +78,16 @@ held_in k e x = Err e
 abbrev pub held : (k : Kind) → MessageError → Value → Result (Held k) MessageError
 held k e x = held_in k e (out-Value x)
 
--- a field of a message with a tag, by its number from 0
+-- a field of a message with a tag, by its number from 0; one of another kind is refused at the place where its spelling begins
 unfoldable pub field_at : (k : Kind) → ℕ → ℕ → ℕ → List ℕ → Read (Held k)
-field_at k total tag number bytes = spelled_at total bytes >>= λ x. held k (WrongKind tag number) x.0 >>= λ h. Ok (h, x.1)
+field_at k total tag number bytes =
+    spelled_at total bytes >>= λ x. held k (WrongKind tag number (total - length bytes)) x.0 >>= λ h. Ok (h, x.1)
 
 abbrev pub fields_at : (ks : List Kind) → ℕ → ℕ → ℕ → List ℕ → Read (Fields ks)
 fields_at [] total tag number bytes = Ok (tt, bytes)
-fields_at (k ∷ ks) total tag number bytes = field_at k total tag number bytes >>= λ first. fields_at ks total tag (number + 1) first.1 >>= λ others. Ok ((first.0, others.0), others.1)
+fields_at (k ∷ ks) total tag number bytes =
+    field_at k total tag number bytes >>= λ first. fields_at ks total tag (number + 1) first.1 >>= λ others.
+    Ok ((first.0, others.0), others.1)
 
 -- nothing may follow
 abbrev pub ended : {A : Type 0} → ℕ → A → List ℕ → Result A MessageError
@@ -90,7 +100,9 @@ counted tag n want = if n == want then Ok tt else Err (WrongFields tag n)
 
 -- all the fields of a message that says that it has n
 abbrev pub fields_of : (ks : List Kind) → ℕ → ℕ → List ℕ → Result (Fields ks) MessageError
-fields_of ks tag n message = counted tag n (length ks) >>= λ u. fields_at ks (length message) tag 0 (drop 2 message) >>= λ fields. ended (length message) fields.0 fields.1
+fields_of ks tag n message =
+    counted tag n (length ks) >>= λ u. fields_at ks (length message) tag 0 (drop 2 message) >>= λ fields.
+    ended (length message) fields.0 fields.1
 
 -- ---- messages
 

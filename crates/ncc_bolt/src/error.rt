@@ -6,7 +6,7 @@ ghost use Rattle.ncc_bolt.specs.Reading.{of_pack};
 use ncc_pack::PackError;
 
 /// Why bytes are no message. A place counts the message's bytes from 0, and a field its fields from 0.
-#[derive(Clone, Copy, Debug, thiserror::Error)]
+#[derive(Clone, Copy, Debug, PartialEq, Eq, thiserror::Error)]
 pub enum MessageError {
     /// The marker of the message, or the spelling of a field, is wrong, or the message ends too early.
     #[error("{0}")]
@@ -26,12 +26,14 @@ pub enum MessageError {
         n: u8,
     },
     /// A field is of another kind than the table says.
-    #[error("field {field} of the message with the tag {tag} is of another kind")]
+    #[error("field {field} of the message with the tag {tag} is of another kind, at byte {at}")]
     WrongKind {
         /// The tag.
         tag: u8,
         /// The number of the field.
         field: u8,
+        /// The place of the first byte of the field's spelling.
+        at: u64,
     },
     /// Bytes follow the last field.
     #[error("bytes behind the message at byte {at}")]
@@ -40,7 +42,7 @@ pub enum MessageError {
         at: u64,
     },
     /// There was no memory.
-    #[error("no memory")]
+    #[error("out of memory")]
     Memory,
 }
 

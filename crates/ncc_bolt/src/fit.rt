@@ -9,7 +9,7 @@ use ncc_pack::{dict_fits, text_fits, values_fit};
 impl Request {
     /// Says whether each field has a spelling, as `Value::fits` says it of the value that the field is.
     pub fn fits(&self) -> bool
-        ensures { result ≡ fits_request self.now }
+        ensures exact { result ≡ fits_request self.now }
     {
         match self {
             Request::Hello { extra } => dict_fits(extra),
@@ -37,7 +37,7 @@ impl Request {
 impl Response {
     /// Says whether each field has a spelling, as `Value::fits` says it of the value that the field is.
     pub fn fits(&self) -> bool
-        ensures { result ≡ fits_response self.now }
+        ensures exact { result ≡ fits_response self.now }
     {
         match self {
             Response::Success { meta } => dict_fits(meta),

@@ -2,7 +2,7 @@
 
 ghost use Rattle.std.specs.Prelude.{◌≡◌, IfOk};
 
-use ncc_pack::{Dict, Text, Values, copy_dict, copy_values};
+use ncc_pack::{Dict, Text, Values};
 use std::alloc::AllocError;
 
 /// What a client sends (Bolt 4.4, section "Messages").
@@ -81,11 +81,11 @@ pub enum Response {
 impl Request {
     /// An equal request, on the same allocators.
     pub fn copy(&self) -> Result<Request, AllocError>
-        ensures { IfOk result (λ copy. copy ≡ self.now) }
+        ensures equal { IfOk result (λ copy. copy ≡ self.now) }
     {
         match self {
             Request::Hello { extra } => Ok(Request::Hello {
-                extra: copy_dict(extra)?,
+                extra: extra.copy()?,
             }),
             Request::Goodbye => Ok(Request::Goodbye),
             Request::Reset => Ok(Request::Reset),
@@ -95,28 +95,28 @@ impl Request {
                 extra,
             } => Ok(Request::Run {
                 query: query.copy()?,
-                params: copy_dict(params)?,
-                extra: copy_dict(extra)?,
+                params: params.copy()?,
+                extra: extra.copy()?,
             }),
             Request::Begin { extra } => Ok(Request::Begin {
-                extra: copy_dict(extra)?,
+                extra: extra.copy()?,
             }),
             Request::Commit => Ok(Request::Commit),
             Request::Rollback => Ok(Request::Rollback),
             Request::Discard { extra } => Ok(Request::Discard {
-                extra: copy_dict(extra)?,
+                extra: extra.copy()?,
             }),
             Request::Pull { extra } => Ok(Request::Pull {
-                extra: copy_dict(extra)?,
+                extra: extra.copy()?,
             }),
             Request::Route {
                 routing,
                 bookmarks,
                 extra,
             } => Ok(Request::Route {
-                routing: copy_dict(routing)?,
-                bookmarks: copy_values(bookmarks)?,
-                extra: copy_dict(extra)?,
+                routing: routing.copy()?,
+                bookmarks: bookmarks.copy()?,
+                extra: extra.copy()?,
             }),
         }
     }
@@ -125,19 +125,15 @@ impl Request {
 impl Response {
     /// An equal response, on the same allocators.
     pub fn copy(&self) -> Result<Response, AllocError>
-        ensures { IfOk result (λ copy. copy ≡ self.now) }
+        ensures equal { IfOk result (λ copy. copy ≡ self.now) }
     {
         match self {
-            Response::Success { meta } => Ok(Response::Success {
-                meta: copy_dict(meta)?,
-            }),
+            Response::Success { meta } => Ok(Response::Success { meta: meta.copy()? }),
             Response::Row { fields } => Ok(Response::Row {
-                fields: copy_values(fields)?,
+                fields: fields.copy()?,
             }),
             Response::Ignored => Ok(Response::Ignored),
-            Response::Failure { meta } => Ok(Response::Failure {
-                meta: copy_dict(meta)?,
-            }),
+            Response::Failure { meta } => Ok(Response::Failure { meta: meta.copy()? }),
         }
     }
 }

@@ -10,7 +10,9 @@ greatest_covers (p ∷ ps) =
     All-cons (λ b. b.place ≤ greatest_place (p ∷ ps)) p ps (omega arith)
     (All-weaker (λ b. b.place ≤ greatest_place ps) (λ b. b.place ≤ greatest_place (p ∷ ps)) (λ b h. omega arith) ps (greatest_covers ps))
 
-reached_by : (p : Point) (ps : List Point) → (greatest_place ps ≡ 0) ⊎ Any (λ b. b.place ≡ greatest_place ps) ps → (greatest_place ps < p.place) ⊎ (p.place ≤ greatest_place ps) → (greatest_place (p ∷ ps) ≡ 0) ⊎ Any (λ b. b.place ≡ greatest_place (p ∷ ps)) (p ∷ ps)
+reached_by : (p : Point) (ps : List Point) → (greatest_place ps ≡ 0) ⊎ Any (λ b. b.place ≡ greatest_place ps) ps →
+    (greatest_place ps < p.place) ⊎ (p.place ≤ greatest_place ps) → (greatest_place (p ∷ ps) ≡ 0)
+    ⊎ Any (λ b. b.place ≡ greatest_place (p ∷ ps)) (p ∷ ps)
 reached_by p ps h (inl lt) = inr (0, p, omega arith, refl, omega arith)
 reached_by p ps (inl none) (inr le) = inl (omega arith)
 reached_by p ps (inr some) (inr le) = inr (suc some.0, some.1, omega (arith, some.2), some.3, some.4 ∙ omega arith)

@@ -1,5 +1,6 @@
 -- The text of a bookmark, from its bytes and back.
-use Rattle.std.proofs.Common.{◌≡◌, ℕ, zero, suc, ◌+◌, ◌<◌, List, [], ◌∷◌, ◌++◌, length, take, drop, Ok, Err, IsErrOf, refl, ap, sym, ◌∙◌, arith, codes, length-append, add-zero}
+use Rattle.std.proofs.Common.{◌≡◌, ℕ, zero, suc, ◌+◌, ◌<◌, List, [], ◌∷◌, ◌++◌, length, take, drop, Ok, Err, IsErrOf, refl, ap, sym}
+use Rattle.std.proofs.Common.{◌∙◌, arith, codes, length-append, add-zero}
 use Rattle.std.proofs.lemmas.List.{take_at, drop_at}
 use Rattle.std.proofs.lemmas.Nat.{from_be_bytes-to_be_bytes_8}
 use Rattle.std.specs.Int.{w64, to_be_bytes, from_be_bytes, bytes_high_first}
@@ -38,7 +39,8 @@ payload_bytes p =
 pub length-encoded : (p : Point) → length (encode_of standard (payload p)) ≡ 24
 unfolding payload
 length-encoded p =
-    length-append (encode_symbols standard.encode_table (payload p)) [] ∙ (add-zero _ ∙ length-encode_symbols standard.encode_table (payload p))
+    length-append (encode_symbols standard.encode_table (payload p)) []
+    ∙ (add-zero _ ∙ length-encode_symbols standard.encode_table (payload p))
 
 pub length-text_of : (p : Point) → length (text_of p) ≡ 28
 unfolding text_of
@@ -55,7 +57,7 @@ back-text_of p = refl
 pub decoded : (p : Point) → decode_of standard (encode_of standard (payload p)) ≡ Ok (payload p)
 decoded p = decode_of-encode_of standard (payload p) refl (payload_bytes p)
 
-point_same : (a b : Point) → a.cluster ≡ b.cluster → a.place ≡ b.place → a ≡ b
+pub point_same : (a b : Point) → a.cluster ≡ b.cluster → a.place ≡ b.place → a ≡ b
 point_same a b clusters places =
     let made : ℕ → ℕ → Point = λ c p. record { cluster = c; place = p } in
     ap (λ c. made c a.place) clusters ∙ ap (λ p. made b.cluster p) places
@@ -63,16 +65,21 @@ point_same a b clusters places =
 pub payload_same : (a b : Point) → Fits a → Fits b → payload a ≡ payload b → a ≡ b
 unfolding payload
 payload_same a b f g e =
-    let clusters : a.cluster ≡ b.cluster = sym (from_be_bytes-to_be_bytes_8 a.cluster f.cluster) ∙ (ap (λ l. from_be_bytes w64 (take 8 (drop 1 l))) e ∙ from_be_bytes-to_be_bytes_8 b.cluster g.cluster) in
-    let places : a.place ≡ b.place = sym (from_be_bytes-to_be_bytes_8 a.place f.place) ∙ (ap (λ l. from_be_bytes w64 (take 8 (drop 9 l))) e ∙ from_be_bytes-to_be_bytes_8 b.place g.place) in
+    let clusters : a.cluster ≡ b.cluster = sym (from_be_bytes-to_be_bytes_8 a.cluster f.cluster)
+    ∙ (ap (λ l. from_be_bytes w64 (take 8 (drop 1 l))) e ∙ from_be_bytes-to_be_bytes_8 b.cluster g.cluster) in
+    let places : a.place ≡ b.place = sym (from_be_bytes-to_be_bytes_8 a.place f.place)
+    ∙ (ap (λ l. from_be_bytes w64 (take 8 (drop 9 l))) e ∙ from_be_bytes-to_be_bytes_8 b.place g.place) in
     point_same a b clusters places
 
 -- two texts with what follows them
 pub texts_same : (a b : Point) (x y : List ℕ) → Fits a → Fits b → text_of a ++ x ≡ text_of b ++ y → (a ≡ b) × (x ≡ y)
 texts_same a b x y f g e =
-    let texts : text_of a ≡ text_of b = sym (take_at (text_of a) x 28 (length-text_of a)) ∙ (ap (take 28) e ∙ take_at (text_of b) y 28 (length-text_of b)) in
-    let rests : x ≡ y = sym (drop_at (text_of a) x 28 (length-text_of a)) ∙ (ap (drop 28) e ∙ drop_at (text_of b) y 28 (length-text_of b)) in
-    let backs : encode_of standard (payload a) ≡ encode_of standard (payload b) = sym (back-text_of a) ∙ (ap (drop 4) texts ∙ back-text_of b) in
+    let texts : text_of a ≡ text_of b = sym (take_at (text_of a) x 28 (length-text_of a))
+    ∙ (ap (take 28) e ∙ take_at (text_of b) y 28 (length-text_of b)) in
+    let rests : x ≡ y = sym (drop_at (text_of a) x 28 (length-text_of a))
+    ∙ (ap (drop 28) e ∙ drop_at (text_of b) y 28 (length-text_of b)) in
+    let backs : encode_of standard (payload a) ≡ encode_of standard (payload b) = sym (back-text_of a)
+    ∙ (ap (drop 4) texts ∙ back-text_of b) in
     let loads : Ok (payload a) ≡ Ok (payload b) = sym (decoded a) ∙ (ap (decode_of standard) backs ∙ decoded b) in
     (payload_same a b f g (cc), rests)
 
@@ -84,7 +91,8 @@ parts-text_of p = refl
 pub encoded_same : (p : Point) (t back : List ℕ) → t ≡ codes "ncc:" ++ back → t ≡ text_of p → back ≡ encode_of standard (payload p)
 encoded_same p t back e f = ap (drop 4) (sym e ∙ f) ∙ back-text_of p
 
-pub text_made : (p : Point) (t back bytes : List ℕ) → t ≡ codes "ncc:" ++ back → back ≡ encode_of standard bytes → bytes ≡ payload p → t ≡ text_of p
+pub text_made : (p : Point) (t back bytes : List ℕ) → t ≡ codes "ncc:" ++ back → back ≡ encode_of standard bytes →
+    bytes ≡ payload p → t ≡ text_of p
 text_made p t back bytes e f g = e ∙ (ap (λ l. codes "ncc:" ++ l) (f ∙ ap (encode_of standard) g) ∙ sym (parts-text_of p))
 
 pub point_of_text : (a b : Point) (t : List ℕ) → Fits a → Fits b → t ≡ text_of a → t ≡ text_of b → a ≡ b

@@ -1,2 +1,4 @@
 pub mod Point
+pub mod Reading
 pub mod Spelling
+pub mod Texts

@@ -1,12 +1,14 @@
 //! A bookmark, and its text.
 
-ghost use Rattle.std.specs.Prelude.{◌≡◌, ◌≢◌, ◌≤◌, ◌<◌, ◌^◌, ◌⊎◌, ℕ, List, [], Ok, Err, length, IfOk, IsErrOf, IfSome, IfNone, All, Any};
+ghost use Rattle.std.specs.Prelude.{◌≡◌, ◌≢◌, ◌≤◌, ◌⊎◌, ℕ, List, [], Ok, Err, length, IfOk, IsErrOf, IfSome, IfNone, All, Any};
 ghost use Rattle.std.specs.Prelude.{◌++◌, codes, string_bytes};
 ghost use Rattle.std.specs.Int.{w64, to_be_bytes};
 ghost use Rattle.base64.specs.Engines.{standard};
 ghost use Rattle.base64.specs.GeneralPurpose.{encode_of, IsBytes};
 ghost use Rattle.ncc_bookmark.specs.Point.{Point, Fits, greatest_place};
+ghost use Rattle.ncc_bookmark.specs.Reading.{reading_of};
 ghost use Rattle.ncc_bookmark.specs.Spelling.{text_of, payload};
+ghost use Rattle.ncc_bookmark.specs.Texts.{IsNoText, IsTextElsewhere, GivesOrMemory};
 
 use base64::DecodeAllocError;
 use base64::engine::general_purpose::STANDARD;
@@ -14,6 +16,18 @@ use ncc_pack::Text;
 use std::alloc::{AllocError, Global};
 use std::marker::Model;
 use thiserror::Error;
+
+// What the text of a bookmark begins with, and how many bytes it has.
+const FRONT: &str = "ncc:";
+
+const TEXT_LENGTH: usize = 28;
+
+// The bytes behind it: how many, the first, which tells the form, and the last.
+const PAYLOAD_LENGTH: usize = 18;
+
+const FORM: u8 = 1;
+
+const LAST: u8 = 0;
 
 /// A place of a cluster's history. It covers the transactions among so many entries from the first.
 #[derive(Clone, Copy)]
@@ -49,25 +63,25 @@ pub enum BookmarkError {
 impl Bookmark {
     /// The bookmark of a place, from 1, of a cluster; place 0 covers nothing. It takes no memory.
     pub fn of(cluster: u64, place: u64) -> Bookmark
-        ensures { result ≡ record { cluster = cluster; place = place } }
+        ensures made { result ≡ record { cluster = cluster; place = place } }
     {
         Bookmark { cluster, place }
     }
 
     /// The place that it names. It takes no memory.
     pub fn place(&self) -> u64
-        ensures { result ≡ self.now.place }
+        ensures place { result ≡ self.now.place }
     {
         self.place
     }
 
     /// Its text: `ncc:` and 24 characters of base64.
     pub fn text(&self, alloc: Global) -> Result<Text, AllocError>
-        ensures { IfOk result (λ t. t ≡ text_of self.now) }
+        ensures text { IfOk result (λ t. t ≡ text_of self.now) }
     {
         let bytes = payload_bytes(alloc, self.cluster, self.place)?;
         let encoded = base64_text(alloc, bytes.as_slice())?;
-        let mut text = Text::from_str(alloc, "ncc:")?;
+        let mut text = Text::from_str(alloc, FRONT)?;
         text.push_str(encoded.as_str())?;
         Ok(text)
     }
@@ -75,12 +89,15 @@ impl Bookmark {
     /// Reads the one text of a bookmark of this cluster. `BadForm` says that the text is no bookmark of any
     /// cluster, and `OtherCluster` that it is one of another.
     pub fn read(alloc: Global, text: &str, cluster: u64) -> Result<Bookmark, BookmarkError>
+        // The text and the cluster decide, unless memory runs out.
+        ensures value { GivesOrMemory result (reading_of text.now cluster) }
+        // The same by the spelling of bookmarks.
         ensures ok { IfOk result (λ b. (b.cluster ≡ cluster) × (text.now ≡ text_of b)) }
-        ensures bad_form { IsErrOf result BookmarkError.BadForm → (b : Point) → Fits b → text.now ≢ text_of b }
-        ensures other { (id : ℕ) → IsErrOf result (BookmarkError.OtherCluster id) → (id ≢ cluster) × (place : ℕ) × (place < 2 ^ 64) × (text.now ≡ text_of (record { cluster = id; place = place })) }
-        // What is spelled so is read so, unless memory runs out.
-        ensures only { (b : Point) → Fits b → text.now ≡ text_of b → b.cluster ≡ cluster → (result ≡ Ok b) ⊎ IsErrOf result BookmarkError.Memory }
-        ensures only_other { (b : Point) → Fits b → text.now ≡ text_of b → b.cluster ≢ cluster → IsErrOf result (BookmarkError.OtherCluster b.cluster) ⊎ IsErrOf result BookmarkError.Memory }
+        ensures bad_form { IsErrOf result BookmarkError.BadForm → IsNoText text.now }
+        ensures other { (id : ℕ) → IsErrOf result (BookmarkError.OtherCluster id) → IsTextElsewhere text.now cluster id }
+        ensures only { (b : Point) → Fits b → text.now ≡ text_of b → b.cluster ≡ cluster → GivesOrMemory result (Ok b) }
+        ensures only_other { (b : Point) → Fits b → text.now ≡ text_of b → b.cluster ≢ cluster
+            → GivesOrMemory result (Err (BookmarkError.OtherCluster b.cluster)) }
     {
         let (found, place) = match point_of(alloc, text.as_bytes()) {
             Ok(point) => point,
@@ -98,11 +115,11 @@ impl Bookmark {
 fn payload_bytes(alloc: Global, cluster: u64, place: u64) -> Result<Vec<u8>, AllocError>
     ensures { IfOk result (λ v. v.items ≡ payload (record { cluster = cluster; place = place })) }
 {
-    let mut bytes = Vec::with_capacity(alloc, 18)?;
-    bytes.push(1)?;
+    let mut bytes = Vec::with_capacity(alloc, PAYLOAD_LENGTH)?;
+    bytes.push(FORM)?;
     bytes.extend_from_slice(&cluster.to_be_bytes())?;
     bytes.extend_from_slice(&place.to_be_bytes())?;
-    bytes.push(0)?;
+    bytes.push(LAST)?;
     Ok(bytes)
 }
 
@@ -112,7 +129,7 @@ fn payload_read(bytes: &[u8]) -> Option<(u64, u64)>
     ensures some { IfSome result (λ r. bytes.now ≡ payload (record { cluster = r.0; place = r.1 })) }
     ensures none { IfNone result ((b : Point) → Fits b → bytes.now ≢ payload b) }
 {
-    if bytes.len() != 18 || bytes[0] != 1 || bytes[17] != 0 {
+    if bytes.len() != PAYLOAD_LENGTH || bytes[0] != FORM || bytes[17] != LAST {
         return None;
     }
     let (_, rest) = bytes.split_at(1);
@@ -164,11 +181,11 @@ fn base64_bytes(alloc: Global, text: &[u8]) -> Result<Vec<u8>, BookmarkError>
 fn point_of(alloc: Global, text: &[u8]) -> Result<(u64, u64), BookmarkError>
     ensures ok { IfOk result (λ r. text.now ≡ text_of (record { cluster = r.0; place = r.1 })) }
     ensures fits { IfOk result (λ r. Fits (record { cluster = r.0; place = r.1 })) }
-    ensures bad_form { IsErrOf result BookmarkError.BadForm → (b : Point) → Fits b → text.now ≢ text_of b }
+    ensures bad_form { IsErrOf result BookmarkError.BadForm → IsNoText text.now }
     ensures other { (id : ℕ) → ¬ (IsErrOf result (BookmarkError.OtherCluster id)) }
 {
     // A longer text is refused before anything of its size is made.
-    if text.len() != 28 {
+    if text.len() != TEXT_LENGTH {
         return Err(BookmarkError::BadForm);
     }
     let Some(encoded) = encoded_part(text) else {

@@ -3,8 +3,6 @@
 
 mod bookmark;
 mod laws;
-#[cfg(test)]
-mod tests;
 
 pub use bookmark::{Bookmark, BookmarkError, need};
-pub use laws::one_text;
+pub use laws::{named_is_spelled, one_text};

@@ -1,6 +1,7 @@
 -- A stream is one list of messages and one rest.
-use Rattle.std.proofs.Common.{◌≡◌, ℕ, ◌+◌, ◌≤◌, List, [], ◌∷◌, ◌++◌, length, inl, inr, refl, sym, ap, ◌∙◌, append_assoc, append-nil, length-append, arith}
-use Rattle.ncc_chunk.specs.Chunks.{Chunks, none, limit, Spells, HoldsNone, Framed, nothing, no_op, message, PastLimit}
+use Rattle.std.proofs.Common.{◌≡◌, ℕ, ◌+◌, ◌≤◌, List, [], ◌∷◌, ◌++◌, length, inl, inr, refl, sym, ap, ◌∙◌, append_assoc, append-nil}
+use Rattle.std.proofs.Common.{length-append, arith}
+use Rattle.ncc_chunk.specs.Chunks.{Chunks, none, limit, Spells, HoldsNone, Framed, nothing, no_op, message, PastLimit, IsTooLongAfter}
 use Rattle.ncc_chunk.proofs.WholeChunks.{compare, end_first, IsCut, size_in, cut_then, head_of, head_within}
 
 -- the bytes of a message and what stands behind
@@ -10,8 +11,10 @@ behind m s x w = rw (w.ends, append_assoc w.chunks (0 ∷ 0 ∷ []) x) refl
 pub spells_same : (m s x m' s' x' : List ℕ) → Spells m s → Spells m' s' → s ++ x ≡ s' ++ x' → (m ≡ m') × (x ≡ x')
 spells_same m s x m' s' x' w w' e =
     elim (compare m w.chunks (0 ∷ 0 ∷ x) m' w'.chunks (0 ∷ 0 ∷ x') w.whole w'.whole (sym (behind m s x w) ∙ e ∙ behind m' s' x' w')) [
-      | inl o ↦ (let k = end_first o.n o.d x (0 ∷ 0 ∷ x') o.chunks o.rest_is in let tails : 0 ∷ 0 ∷ x' ≡ 0 ∷ 0 ∷ x = k.1 in (sym (o.message_is ∙ ap (λ v. m ++ v) k.0 ∙ append-nil m), cc))
-      | inr o ↦ (let k = end_first o.n o.d x' (0 ∷ 0 ∷ x) o.chunks o.rest_is in let tails : 0 ∷ 0 ∷ x ≡ 0 ∷ 0 ∷ x' = k.1 in (o.message_is ∙ ap (λ v. m' ++ v) k.0 ∙ append-nil m', cc))
+      | inl o ↦ (let k = end_first o.n o.d x (0 ∷ 0 ∷ x') o.chunks o.rest_is in let tails : 0 ∷ 0 ∷ x' ≡ 0 ∷ 0 ∷ x = k.1 in
+          (sym (o.message_is ∙ ap (λ v. m ++ v) k.0 ∙ append-nil m), cc))
+      | inr o ↦ (let k = end_first o.n o.d x' (0 ∷ 0 ∷ x) o.chunks o.rest_is in let tails : 0 ∷ 0 ∷ x ≡ 0 ∷ 0 ∷ x' = k.1 in
+          (o.message_is ∙ ap (λ v. m' ++ v) k.0 ∙ append-nil m', cc))
     ]
 
 -- a message is no no-op
@@ -27,7 +30,8 @@ framed_same a b ms ns r s e (nothing h) (nothing k) = (refl, e)
 framed_same a b ms ns r s e (nothing h) (no_op q) = absurd (h.no_op _ e)
 framed_same a b ms ns r s e (nothing h) (message m' s' b' w' q) = absurd (h.message m' s' b' w' e)
 framed_same a b ms ns r s e (no_op p) (nothing k) = absurd (k.no_op _ (sym e))
-framed_same a b ms ns r s e (no_op {bytes = a1} p) (no_op {bytes = b1} q) = let tails : a1 ≡ b1 = cc in framed_same a1 b1 ms ns r s tails p q
+framed_same a b ms ns r s e (no_op {bytes = a1} p) (no_op {bytes = b1} q) = let tails : a1 ≡ b1 = cc in
+    framed_same a1 b1 ms ns r s tails p q
 framed_same a b ms ns r s e (no_op {bytes = a1} p) (message m' s' b' w' q) = absurd (spells_no_op m' s' b' a1 w' e)
 framed_same a b ms ns r s e (message m1 s1 a1 w p) (nothing k) = absurd (k.message m1 s1 a1 w (sym e))
 framed_same a b ms ns r s e (message m1 s1 a1 w p) (no_op {bytes = b1} q) = absurd (spells_no_op m1 s1 a1 b1 w (sym e))
@@ -39,10 +43,12 @@ framed_same a b ms ns r s e (message m1 s1 a1 {messages = ms1} w p) (message m' 
     (cc, rest.1)
 
 -- Reading on over what comes behind is reading on from the rest.
-pub framed_on : (b : List ℕ) (ms : List (List ℕ)) (r x : List ℕ) (ns : List (List ℕ)) (s : List ℕ) → Framed b ms r → Framed (r ++ x) ns s → Framed (b ++ x) (ms ++ ns) s
+pub framed_on : (b : List ℕ) (ms : List (List ℕ)) (r x : List ℕ) (ns : List (List ℕ)) (s : List ℕ) → Framed b ms r →
+    Framed (r ++ x) ns s → Framed (b ++ x) (ms ++ ns) s
 framed_on b ms r x ns s (nothing h) q = q
 framed_on b ms r x ns s (no_op {bytes = b1} {messages = ms1} p) q = no_op (framed_on b1 ms1 r x ns s p q)
-framed_on b ms r x ns s (message m1 s1 b1 {messages = ms1} w p) q = rw (append_assoc s1 b1 x) (message m1 s1 (b1 ++ x) w (framed_on b1 ms1 r x ns s p q))
+framed_on b ms r x ns s (message m1 s1 b1 {messages = ms1} w p) q =
+    rw (append_assoc s1 b1 x) (message m1 s1 (b1 ++ x) w (framed_on b1 ms1 r x ns s p q))
 
 -- whole chunks and a cut one hold no message
 pub none_in_cut : (m c t : List ℕ) → Chunks m c → IsCut t → HoldsNone (c ++ t)
@@ -95,7 +101,8 @@ none_in_past r o = record {
   message = λ m' s' x w e. (
       let past = o.past in
       let fits = w.fits in
-      elim (compare o.message o.chunks (o.high ∷ o.low ∷ o.more) m' w.chunks (0 ∷ 0 ∷ x) o.whole w.whole (sym o.rest_is ∙ e ∙ behind m' s' x w)) [
+      elim (compare o.message o.chunks (o.high ∷ o.low ∷ o.more) m' w.chunks (0 ∷ 0 ∷ x) o.whole w.whole (sym o.rest_is ∙ e
+      ∙ behind m' s' x w)) [
         | inl q ↦ (
             let l = ap length q.message_is in
             let a = length-append o.message q.n in
@@ -125,3 +132,10 @@ past_on r x o = record {
   rest_is = rw (o.rest_is, append_assoc o.chunks (o.high ∷ o.low ∷ o.more) x) refl;
   past = o.past;
 }
+
+pub too_long_on : (stream more : List ℕ) (messages : List (List ℕ)) → IsTooLongAfter stream messages →
+    IsTooLongAfter (stream ++ more) messages
+too_long_on stream more messages e =
+    let past = past_on e.0 more e.2 in
+    let framed = framed_on stream messages e.0 more [] (e.0 ++ more) e.1 (nothing (none_in_past (e.0 ++ more) past)) in
+    (e.0 ++ more, rw (append-nil messages) at framed, past)

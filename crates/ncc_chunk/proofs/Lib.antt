@@ -6,3 +6,6 @@ pub mod Steps
 pub mod Handing
 pub mod Pieces
 pub mod Reading
+pub mod Choices
+pub mod Fronts
+pub mod Parts

@@ -1,5 +1,6 @@
 -- Lists, one in front of the other.
-use Rattle.std.proofs.Common.{◌≡◌, ℕ, ◌+◌, ◌<◌, ◌≤◌, List, [], ◌∷◌, ◌++◌, length, take, drop, subst, refl, sym, ap, ◌∙◌, append_assoc, append-nil, length-append, length-take, arith}
+use Rattle.std.proofs.Common.{◌≡◌, ℕ, ◌+◌, ◌<◌, ◌≤◌, List, [], ◌∷◌, ◌++◌, length, take, drop, subst, refl, sym, ap, ◌∙◌}
+use Rattle.std.proofs.Common.{append_assoc, append-nil, length-append, length-take, arith}
 use Rattle.std.proofs.lemmas.List.{take-append-drop}
 use Rattle.std.proofs.Math.Seq.{take-append_seam}
 use Rattle.ncc_chunk.specs.Keeping.{Begins}
@@ -34,11 +35,13 @@ begins_over (r ∷ rs) [] b c (y ∷ ys) p q = absurd (p.1)
 begins_over (r ∷ rs) (q1 ∷ qs) b c (y ∷ ys) p q = (p.0 ∙ q.0, begins_over rs qs b c ys p.1 q.1)
 
 -- The list at that place begins with the one that was at hand.
-pub begins_at : (rs qs : List (List ℕ)) (b c : List ℕ) (later : List (List ℕ)) → length qs ≡ length rs → Begins rs b (qs ++ c ∷ later) → (qs ≡ rs) × (take (length b) c ≡ b)
+pub begins_at : (rs qs : List (List ℕ)) (b c : List ℕ) (later : List (List ℕ)) → length qs ≡ length rs →
+    Begins rs b (qs ++ c ∷ later) → (qs ≡ rs) × (take (length b) c ≡ b)
 begins_at [] [] b c later h p = (refl, rw (p.1) (take-append_seam b p.0))
 begins_at [] (q ∷ qs) b c later h p = absurd (omega arith)
 begins_at (r ∷ rs) [] b c later h p = absurd (omega arith)
-begins_at (r ∷ rs) (q ∷ qs) b c later h p = let k = begins_at rs qs b c later (omega arith) p.1 in let e : r ≡ q = p.0 in let f : qs ≡ rs = k.0 in (cc, k.1)
+begins_at (r ∷ rs) (q ∷ qs) b c later h p = let k = begins_at rs qs b c later (omega arith) p.1 in let e : r ≡ q = p.0 in
+    let f : qs ≡ rs = k.0 in (cc, k.1)
 
 begins_long : (rs : List (List ℕ)) (b : List ℕ) (xs : List (List ℕ)) → Begins rs b xs → length rs < length xs
 begins_long [] b [] p = absurd p
@@ -47,7 +50,8 @@ begins_long [] b (x ∷ xs) p = omega arith
 begins_long (r ∷ rs) b (x ∷ xs) p = let k = begins_long rs b xs p.1 in omega arith
 
 -- Where no list came behind, they are those that there were.
-pub restored_same : (rs qs : List (List ℕ)) (b c : List ℕ) → length qs ≤ length rs → Begins rs b (qs ++ c ∷ []) → (qs ≡ rs) × (take (length b) c ≡ b)
+pub restored_same : (rs qs : List (List ℕ)) (b c : List ℕ) → length qs ≤ length rs → Begins rs b (qs ++ c ∷ []) → (qs ≡ rs)
+    × (take (length b) c ≡ b)
 restored_same rs qs b c h p =
     let k = begins_long rs b (qs ++ c ∷ []) p in
     let l = length-append qs (c ∷ []) in
@@ -60,10 +64,12 @@ begins_more [] (q ∷ qs) b c h p = p
 begins_more (r ∷ rs) [] b c h p = absurd (omega arith)
 begins_more (r ∷ rs) (q ∷ qs) b c h p = (p.0, begins_more rs qs b c (omega arith) p.1)
 
-pub restored_more : (rs qs : List (List ℕ)) (b c : List ℕ) (ks : List (List ℕ)) (k : List ℕ) → length rs < length qs → take (length rs + 1) qs ≡ ks ++ k ∷ [] → Begins rs b (qs ++ c ∷ []) → (ks ≡ rs) × (take (length b) k ≡ b)
+pub restored_more : (rs qs : List (List ℕ)) (b c : List ℕ) (ks : List (List ℕ)) (k : List ℕ) → length rs < length qs →
+    take (length rs + 1) qs ≡ ks ++ k ∷ [] → Begins rs b (qs ++ c ∷ []) → (ks ≡ rs) × (take (length b) k ≡ b)
 restored_more rs qs b c ks k h e p =
     let later = drop (length rs + 1) qs in
-    let whole : qs ≡ ks ++ k ∷ later = sym (take-append-drop (length rs + 1) qs) ∙ ap (λ v. v ++ later) e ∙ append_assoc ks (k ∷ []) later in
+    let whole : qs ≡ ks ++ k ∷ later = sym (take-append-drop (length rs + 1) qs) ∙ ap (λ v. v ++ later) e
+    ∙ append_assoc ks (k ∷ []) later in
     let l = length-take (length rs + 1) qs in
     let m = length-append ks (k ∷ []) in
     let n = ap length e in

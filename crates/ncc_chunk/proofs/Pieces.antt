@@ -1,19 +1,13 @@
 -- The chunks that a message is sent in.
-use Rattle.std.proofs.Common.{◌≡◌, ℕ, zero, suc, ◌/◌, ◌%◌, ◌<◌, ◌≤◌, Bool, true, false, cond, List, [], ◌∷◌, ◌++◌, length, take, drop, inl, inr, refl, sym, ap, subst, ◌∙◌, append-nil, length-take, length-drop, arith}
+use Rattle.std.proofs.Common.{◌≡◌, ℕ, zero, suc, ◌/◌, ◌%◌, ◌<◌, ◌≤◌, true, false, List, [], ◌∷◌, ◌++◌, length, take, drop, inl, inr}
+use Rattle.std.proofs.Common.{refl, sym, ap, subst, ◌∙◌, append-nil, length-take, length-drop, arith}
 use Rattle.std.specs.Prelude.{nat_lt}
 use Rattle.std.proofs.lemmas.Bool.{cases_lt}
 use Rattle.std.proofs.lemmas.Bool.Decides.{nat_tests}
 use Rattle.std.proofs.lemmas.List.{take-append-drop}
+use Rattle.ncc_chunk.proofs.Choices.{at_true, at_false}
 use Rattle.ncc_chunk.specs.Chunks.{size_of, Chunks, none, chunk, limit, Framed, message}
 use Rattle.ncc_chunk.specs.Chunked.{most, chunk_of, chunks_by, chunks_of, chunked}
-
-at_true : (b : Bool) (x y : List ℕ) → b ≡ true → cond b x y ≡ x
-at_true true x y e = refl
-at_true false x y e = absurd (cc)
-
-at_false : (b : Bool) (x y : List ℕ) → b ≡ false → cond b x y ≡ y
-at_false false x y e = refl
-at_false true x y e = absurd (cc)
 
 is_longer : (m : List ℕ) → most < length m → nat_lt most (length m) ≡ true
 is_longer m h = grind (arith, nat_tests)
@@ -35,7 +29,8 @@ enough : (n k : ℕ) (m : List ℕ) → length m ≤ n → length m ≤ k → ch
 enough zero k m h j = by_last zero m (omega arith) ∙ sym (by_last k m (omega arith))
 enough (suc n) zero m h j = by_last (suc n) m (omega arith) ∙ sym (by_last zero m (omega arith))
 enough (suc n) (suc k) m h j = elim (cases_lt most (length m)) [
-  | inl l ↦ (let d = length-drop most m in by_more n m l ∙ ap (λ v. chunk_of (take most m) ++ v) (enough n k (drop most m) (omega arith) (omega arith)) ∙ sym (by_more k m l))
+  | inl l ↦ (let d = length-drop most m in by_more n m l
+      ∙ ap (λ v. chunk_of (take most m) ++ v) (enough n k (drop most m) (omega arith) (omega arith)) ∙ sym (by_more k m l))
   | inr l ↦ by_last (suc n) m l ∙ sym (by_last (suc k) m l)
 ]
 
@@ -64,7 +59,9 @@ chunks_by_whole (suc n) m h = elim (cases_lt most (length m)) [
   | inl l ↦ (
       let d = length-drop most m in
       let t = length-take most m in
-      rw (by_more n m l) (subst (λ (v : List ℕ). Chunks v (chunk_of (take most m) ++ chunks_by n (drop most m))) (take-append-drop most m) (one_chunk (take most m) (drop most m) (chunks_by n (drop most m)) (omega arith) (chunks_by_whole n (drop most m) (omega arith)))))
+      rw (by_more n m l) (subst (λ (v : List ℕ). Chunks v (chunk_of (take most m) ++ chunks_by n (drop most m)))
+      (take-append-drop most m) (one_chunk (take most m) (drop most m) (chunks_by n (drop most m)) (omega arith)
+      (chunks_by_whole n (drop most m) (omega arith)))))
   | inr l ↦ rw (by_last (suc n) m l) (rw (append-nil m) at (one_chunk m [] [] h none))
 ]
 
@@ -74,5 +71,12 @@ unfolding chunks_of
 chunks_whole m h = chunks_by_whole (length m) m h
 
 -- and is read back as the message
-pub reads_back : (m bytes : List ℕ) (messages : List (List ℕ)) (rest : List ℕ) → 0 < length m → length m ≤ limit → Framed bytes messages rest → Framed (chunked m ++ bytes) (m ∷ messages) rest
-reads_back m bytes messages rest h f p = message m (chunked m) bytes (record { chunks = chunks_of m; whole = chunks_whole m h; not_empty = h; fits = f; ends = refl }) p
+pub reads_back : (m bytes : List ℕ) (messages : List (List ℕ)) (rest : List ℕ) → 0 < length m → length m ≤ limit →
+    Framed bytes messages rest → Framed (chunked m ++ bytes) (m ∷ messages) rest
+reads_back m bytes messages rest h f p = message m (chunked m) bytes (record {
+  chunks = chunks_of m;
+  whole = chunks_whole m h;
+  not_empty = h;
+  fits = f;
+  ends = refl;
+}) p

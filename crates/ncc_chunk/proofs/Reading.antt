@@ -24,7 +24,8 @@ one_byte a (InBody left) e b = elim (cases_lt 0 left) [
   | inr none ↦ (
     a,
     record {
-      stands = λ stream handed k. (let w : IsInBody left a.body k.rest = subst (λ p. Holds p a.body k.rest) e k.holds in let s = w.some_left in absurd (omega arith));
+      stands = λ stream handed k. (let w : IsInBody left a.body k.rest = subst (λ p. Holds p a.body k.rest) e k.holds in
+          let s = w.some_left in absurd (omega arith));
       begins = begins_as a;
     },
   )

@@ -1,5 +1,6 @@
 -- The handshake's answer and its bytes, as one more byte comes.
-use Rattle.std.proofs.Common.{◌≡◌, ◌≢◌, ℕ, ◌<◌, ◌≤◌, Bool, true, false, cond, List, [], ◌∷◌, ◌++◌, length, take, ◌⊎◌, inl, inr, refl, sym, ap, ◌∙◌, length-append, arith}
+use Rattle.std.proofs.Common.{◌≡◌, ◌≢◌, ℕ, ◌<◌, ◌≤◌, Bool, true, false, cond, List, [], ◌∷◌, ◌++◌, length, take, ◌⊎◌, inl, inr}
+use Rattle.std.proofs.Common.{refl, sym, ap, ◌∙◌, length-append, arith}
 use Rattle.std.specs.Prelude.{nat_lt, bytes_eq}
 use Rattle.std.specs.List.{list_any}
 use Rattle.std.proofs.lemmas.Bool.{ltb-true, ltb-false, cases_lt}
@@ -10,14 +11,17 @@ use Rattle.ncc_chunk.specs.declared.handshake.Shake.TheVariants.{More, Chosen, B
 use Rattle.ncc_chunk.specs.Handshake.{magic, covers, proposals, answer_to, handshake_of}
 
 -- the answer by its three tests: fewer than 4, the magic, fewer than 20, and a proposal that covers
-more_by : (few whole less some : Bool) → cond few More (cond whole (cond less More (cond some Chosen NoVersion)) BadMagic) ≡ More → (few ≡ true) ⊎ ((whole ≡ true) × (less ≡ true))
+more_by : (few whole less some : Bool) → cond few More (cond whole (cond less More (cond some Chosen NoVersion)) BadMagic) ≡ More →
+    (few ≡ true) ⊎ ((whole ≡ true) × (less ≡ true))
 more_by true whole less some e = inl refl
 more_by false true true some e = inr (refl, refl)
 more_by false true false true e = absurd (cc)
 more_by false true false false e = absurd (cc)
 more_by false false less some e = absurd (cc)
 
-settled_by : (few whole less some : Bool) → cond few More (cond whole (cond less More (cond some Chosen NoVersion)) BadMagic) ≢ More → (few ≡ false) × ((whole ≡ false) ⊎ ((whole ≡ true) × (less ≡ false)))
+settled_by : (few whole less some : Bool) →
+    cond few More (cond whole (cond less More (cond some Chosen NoVersion)) BadMagic) ≢ More → (few ≡ false)
+    × ((whole ≡ false) ⊎ ((whole ≡ true) × (less ≡ false)))
 settled_by true whole less some e = absurd (e refl)
 settled_by false true true some e = absurd (e refl)
 settled_by false true false some e = (refl, inr (refl, refl))
@@ -29,7 +33,8 @@ more_is b e = elim (more_by (nat_lt (length b) 4) (bytes_eq (take 4 b) magic) (n
   | inr h ↦ inr (h.0, ltb-true (length b) 20 h.1)
 ]
 
-pub settled_is : (b : List ℕ) → answer_to b ≢ More → (4 ≤ length b) × ((bytes_eq (take 4 b) magic ≡ false) ⊎ ((bytes_eq (take 4 b) magic ≡ true) × (20 ≤ length b)))
+pub settled_is : (b : List ℕ) → answer_to b ≢ More → (4 ≤ length b)
+    × ((bytes_eq (take 4 b) magic ≡ false) ⊎ ((bytes_eq (take 4 b) magic ≡ true) × (20 ≤ length b)))
 settled_is b e =
     let s = settled_by (nat_lt (length b) 4) (bytes_eq (take 4 b) magic) (nat_lt (length b) 20) (list_any covers (proposals b)) e in
     (ltb-false (length b) 4 s.0, elim s.1 [ inl h ↦ inl h | inr h ↦ inr (h.0, ltb-false (length b) 20 h.1) ])
@@ -108,13 +113,15 @@ same_where_settled s x e =
           let front : take 4 (handshake_of s) ≡ take 4 s = ap (take 4) h.1 ∙ take-take 4 20 s (omega arith) in
           elim t.1 [
             | inl m ↦ absurd (clash (magic_of s) h.0 (sym (magic_front (handshake_of s) s front) ∙ m))
-            | inr m ↦ (let long = m.1 in with_magic (s ++ x) (magic_front (s ++ x) s (take-append-le 4 s x (omega arith)) ∙ h.0) ∙ take-append-le 20 s x (omega arith) ∙ sym h.1)
+            | inr m ↦ (let long = m.1 in with_magic (s ++ x) (magic_front (s ++ x) s (take-append-le 4 s x (omega arith)) ∙ h.0)
+                ∙ take-append-le 20 s x (omega arith) ∙ sym h.1)
           ])
       | inr h ↦ (
           let l = length-take 4 s in
           let k = ap length h.1 in
           let long = t.0 in
-          with_other (s ++ x) (magic_front (s ++ x) s (take-append-le 4 s x (omega arith)) ∙ h.0) ∙ take-append-le 4 s x (omega arith) ∙ sym h.1)
+          with_other (s ++ x) (magic_front (s ++ x) s (take-append-le 4 s x (omega arith)) ∙ h.0)
+          ∙ take-append-le 4 s x (omega arith) ∙ sym h.1)
     ]
 
 -- where more are wanted, one more byte is taken
@@ -139,7 +146,8 @@ one_more b y e =
 handshake_twice : (s : List ℕ) → handshake_of (handshake_of s) ≡ handshake_of s
 handshake_twice s = elim (handshake_cases s) [
   | inl h ↦ (let front : take 4 (handshake_of s) ≡ take 4 s = ap (take 4) h.1 ∙ take-take 4 20 s (omega arith) in
-      with_magic (handshake_of s) (magic_front (handshake_of s) s front ∙ h.0) ∙ ap (take 20) h.1 ∙ take-take 20 20 s (omega arith) ∙ sym h.1)
+      with_magic (handshake_of s) (magic_front (handshake_of s) s front ∙ h.0) ∙ ap (take 20) h.1 ∙ take-take 20 20 s (omega arith)
+      ∙ sym h.1)
   | inr h ↦ (let front : take 4 (handshake_of s) ≡ take 4 s = ap (take 4) h.1 ∙ take-take 4 4 s (omega arith) in
       with_other (handshake_of s) (magic_front (handshake_of s) s front ∙ h.0) ∙ front ∙ sym h.1)
 ]
@@ -153,5 +161,6 @@ is_more NoVersion = inr (λ e. cc)
 pub goes_on : (s x : List ℕ) → handshake_of (handshake_of s ++ x) ≡ handshake_of (s ++ x)
 goes_on s x = elim (is_more (answer_to (handshake_of s))) [
   | inl e ↦ ap (λ v. handshake_of (v ++ x)) (whole_where_more s e)
-  | inr e ↦ same_where_settled (handshake_of s) x (λ m. e (ap answer_to (sym (handshake_twice s)) ∙ m)) ∙ handshake_twice s ∙ sym (same_where_settled s x e)
+  | inr e ↦ same_where_settled (handshake_of s) x (λ m. e (ap answer_to (sym (handshake_twice s)) ∙ m)) ∙ handshake_twice s
+      ∙ sym (same_where_settled s x e)
 ]

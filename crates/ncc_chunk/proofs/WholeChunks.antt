@@ -1,5 +1,6 @@
 -- Chunks, one behind the other, and what may stand behind them.
-use Rattle.std.proofs.Common.{◌≡◌, ℕ, ◌<◌, ◌≤◌, List, [], ◌∷◌, ◌++◌, length, ◌⊎◌, inl, inr, refl, sym, ap, ◌∙◌, append_assoc, length-append, arith}
+use Rattle.std.proofs.Common.{◌≡◌, ℕ, ◌<◌, ◌≤◌, List, [], ◌∷◌, ◌++◌, length, ◌⊎◌, inl, inr, refl, sym, ap, ◌∙◌, append_assoc}
+use Rattle.std.proofs.Common.{length-append, arith}
 use Rattle.ncc_chunk.proofs.Lists.{split_same}
 use Rattle.ncc_chunk.specs.Chunks.{size_of, Chunks, none, chunk}
 
@@ -17,7 +18,8 @@ pub record Onward (m c t m' c' t' : List ℕ) : Type 0 where
   pub bytes_is : c' ≡ c ++ d
   pub rest_is : t ≡ d ++ t'
 
-onward_more : (h l h' l' : ℕ) (b b' m c t m' c' t' : List ℕ) → h ≡ h' → l ≡ l' → b ≡ b' → Onward m c t m' c' t' → Onward (b ++ m) (h ∷ l ∷ b ++ c) t (b' ++ m') (h' ∷ l' ∷ b' ++ c') t'
+onward_more : (h l h' l' : ℕ) (b b' m c t m' c' t' : List ℕ) → h ≡ h' → l ≡ l' → b ≡ b' → Onward m c t m' c' t' →
+    Onward (b ++ m) (h ∷ l ∷ b ++ c) t (b' ++ m') (h' ∷ l' ∷ b' ++ c') t'
 onward_more h l h' l' b b' m c t m' c' t' eh el eb o = record {
   n = o.n;
   d = o.d;
@@ -31,12 +33,20 @@ onward_more h l h' l' b b' m c t m' c' t' eh el eb o = record {
 pub compare : (m c t m' c' t' : List ℕ) → Chunks m c → Chunks m' c' → c ++ t ≡ c' ++ t' → Onward m c t m' c' t' ⊎ Onward m' c' t' m c t
 compare m c t m' c' t' none q e = inl (record { n = m'; d = c'; chunks = q; message_is = refl; bytes_is = refl; rest_is = e })
 compare m c t m' c' t' (chunk h l b m1 c1 some len p) none e =
-    inr (record { n = b ++ m1; d = h ∷ l ∷ b ++ c1; chunks = chunk h l b m1 c1 some len p; message_is = refl; bytes_is = refl; rest_is = sym e })
+    inr (record {
+      n = b ++ m1;
+      d = h ∷ l ∷ b ++ c1;
+      chunks = chunk h l b m1 c1 some len p;
+      message_is = refl;
+      bytes_is = refl;
+      rest_is = sym e;
+    })
 compare m c t m' c' t' (chunk h l b m1 c1 some len p) (chunk h' l' b' m1' c1' some' len' p') e =
     let eh : h ≡ h' = cc in
     let el : l ≡ l' = cc in
     let tails : (b ++ c1) ++ t ≡ (b' ++ c1') ++ t' = cc in
-    let same = split_same b b' (c1 ++ t) (c1' ++ t') (len ∙ ap (λ x. size_of x l) eh ∙ ap (λ x. size_of h' x) el ∙ sym len') (sym (append_assoc b c1 t) ∙ tails ∙ append_assoc b' c1' t') in
+    let same = split_same b b' (c1 ++ t) (c1' ++ t') (len ∙ ap (λ x. size_of x l) eh ∙ ap (λ x. size_of h' x) el
+    ∙ sym len') (sym (append_assoc b c1 t) ∙ tails ∙ append_assoc b' c1' t') in
     elim (compare m1 c1 t m1' c1' t' p p' same.1) [
       | inl o ↦ inl (onward_more h l h' l' b b' m1 c1 t m1' c1' t' eh el same.0 o)
       | inr o ↦ inr (onward_more h' l' h l b' b m1' c1' t' m1 c1 t (sym eh) (sym el) (sym same.0) o)
@@ -82,7 +92,8 @@ head_of h l h' l' x x' e =
     ap (λ v. size_of v l) eh ∙ ap (λ v. size_of h' v) el
 
 -- the size of a head that begins whole chunks is within their bodies
-pub head_within : (n d : List ℕ) (h l : ℕ) (x y : List ℕ) → Chunks n d → h ∷ l ∷ x ≡ d ++ y → (h ∷ l ∷ x ≡ y) × (n ≡ []) ⊎ (size_of h l ≤ length n)
+pub head_within : (n d : List ℕ) (h l : ℕ) (x y : List ℕ) → Chunks n d → h ∷ l ∷ x ≡ d ++ y → (h ∷ l ∷ x ≡ y) × (n ≡ [])
+    ⊎ (size_of h l ≤ length n)
 head_within n d h l x y none e = inl (e, refl)
 head_within n d h l x y (chunk h' l' b m1 c1 some len p) e =
     let s = head_of h l h' l' x ((b ++ c1) ++ y) e in

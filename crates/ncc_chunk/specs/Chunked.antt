@@ -12,7 +12,8 @@ chunk_of body = (length body / 256) ∷ (length body % 256) ∷ body
 -- chunks of the greatest size while more than that is left, so many of them at most, and then the rest
 unfoldable pub chunks_by : ℕ → List ℕ → List ℕ
 chunks_by zero message = chunk_of message
-chunks_by (suc n) message = if nat_lt most (length message) then chunk_of (take most message) ++ chunks_by n (drop most message) else chunk_of message
+chunks_by (suc n) message = if nat_lt most (length message) then chunk_of (take most message) ++ chunks_by n
+    (drop most message) else chunk_of message
 
 -- all chunks of a message: there are no more of them than it has bytes
 unfoldable pub chunks_of : List ℕ → List ℕ

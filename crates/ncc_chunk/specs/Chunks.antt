@@ -8,7 +8,8 @@ size_of high low = 256 * high + low
 -- The bytes are whole chunks, one after another, whose bodies join to the message. A chunk is a size, which is not 0, and so many bytes.
 pub data Chunks : List ℕ → List ℕ → Type 0 where
   none : Chunks [] []
-  chunk : (high low : ℕ) (body message bytes : List ℕ) → 0 < size_of high low → length body ≡ size_of high low → Chunks message bytes → Chunks (body ++ message) (high ∷ low ∷ body ++ bytes)
+  chunk : (high low : ℕ) (body message bytes : List ℕ) → 0 < size_of high low → length body ≡ size_of high low →
+      Chunks message bytes → Chunks (body ++ message) (high ∷ low ∷ body ++ bytes)
 
 -- how many bytes a message has at most
 abbrev pub limit : ℕ
@@ -31,7 +32,8 @@ pub record HoldsNone (rest : List ℕ) : Type 0 where
 pub data Framed : List ℕ → List (List ℕ) → List ℕ → Type 0 where
   nothing : {rest : List ℕ} → HoldsNone rest → Framed rest [] rest
   no_op : {bytes rest : List ℕ} {messages : List (List ℕ)} → Framed bytes messages rest → Framed (0 ∷ 0 ∷ bytes) messages rest
-  message : (first spelled bytes : List ℕ) {rest : List ℕ} {messages : List (List ℕ)} → Spells first spelled → Framed bytes messages rest → Framed (spelled ++ bytes) (first ∷ messages) rest
+  message : (first spelled bytes : List ℕ) {rest : List ℕ} {messages : List (List ℕ)} → Spells first spelled →
+      Framed bytes messages rest → Framed (spelled ++ bytes) (first ∷ messages) rest
 
 -- The sizes of the chunks that the rest begins with pass the limit. A size counts once both bytes of its head have come.
 pub record PastLimit (rest : List ℕ) : Type 0 where
@@ -51,6 +53,10 @@ IsTooLongAfter stream messages = (rest : List ℕ) × Framed stream messages res
 -- Behind these messages the stream has no whole message, and none that is too long.
 abbrev pub EndsAfter : List ℕ → List (List ℕ) → Type 0
 EndsAfter stream messages = (rest : List ℕ) × Framed stream messages rest × ¬ (PastLimit rest)
+
+-- Behind these messages the stream goes on with this one.
+abbrev pub IsNextAfter : List ℕ → List (List ℕ) → List ℕ → Type 0
+IsNextAfter stream messages next = (later : List (List ℕ)) × (rest : List ℕ) × Framed stream (messages ++ next ∷ later) rest
 
 -- Nothing stands behind the last whole message of the stream but no-ops.
 abbrev pub IsBetweenMessages : List ℕ → Type 0

@@ -1,8 +1,8 @@
 -- What a dechunker keeps, and which streams it stands for.
-use Rattle.std.specs.Prelude.{◌≡◌, ℕ, ◌+◌, ◌<◌, ◌≤◌, List, [], ◌∷◌, ◌++◌, length}
+use Rattle.std.specs.Prelude.{◌≡◌, ℕ, ◌+◌, ◌<◌, ◌≤◌, List, [], ◌∷◌, ◌++◌, length, ◌↔◌}
 use Rattle.ncc_chunk.specs.declared.dechunker.Place.{Place}
 use Rattle.ncc_chunk.specs.declared.dechunker.Place.TheVariants.{Between, InHead, InBody, Stopped}
-use Rattle.ncc_chunk.specs.Chunks.{Chunks, Framed, PastLimit, size_of, limit}
+use Rattle.ncc_chunk.specs.Chunks.{Chunks, Framed, PastLimit, IsTooLongAfter, size_of, limit}
 
 -- what a dechunker keeps: none of the stream's bytes but bodies, and at most one byte of a head
 pub record Inflow : Type 0 where
@@ -50,3 +50,22 @@ pub record Stands (state : Inflow) (stream : List ℕ) (handed : List (List ℕ)
   pub rest : List ℕ
   pub framed : Framed stream (handed ++ state.ready) rest
   pub holds : Holds state.place state.body rest
+
+-- With this piece behind a stream that the one stands for, the other stands for it.
+abbrev pub Feeds : Inflow → List ℕ → Inflow → Type 0
+Feeds old piece new =
+    (stream : List ℕ) (handed : List (List ℕ)) → Stands old stream handed → Stands new (stream ++ piece) handed
+
+-- With this message behind those that the one handed out, the other handed out them.
+abbrev pub HandsOut : Inflow → List ℕ → Inflow → Type 0
+HandsOut old message new =
+    (stream : List ℕ) (handed : List (List ℕ)) → Stands old stream handed → Stands new stream (handed ++ message ∷ [])
+
+-- It is so exactly where this holds of the stream that was fed and the messages that were handed out.
+abbrev pub ExactlyAt : (List ℕ → List (List ℕ) → Type 0) → Inflow → Type 0 → Type 0
+ExactlyAt P state answer = (stream : List ℕ) (handed : List (List ℕ)) → Stands state stream handed → (answer ↔ P stream handed)
+
+-- Behind the messages that are ready comes one that is too long.
+abbrev pub IsPastLimit : Inflow → Type 0
+IsPastLimit state =
+    (stream : List ℕ) × (handed : List (List ℕ)) × Stands state stream handed × IsTooLongAfter stream (handed ++ state.ready)

@@ -1,9 +1,10 @@
 -- What the steps of a dechunker take and leave. No public clause speaks of it.
-use Rattle.std.specs.Prelude.{◌≡◌, ℕ, zero, suc, ◌-◌, ◌<◌, List, [], ◌∷◌, ◌++◌, length, drop, Option, Some, None}
+use Rattle.std.specs.Prelude.{◌≡◌, ℕ, zero, suc, ◌+◌, ◌-◌, ◌<◌, ◌≤◌, List, [], ◌∷◌, ◌++◌, length, drop, Option, Some, None}
 use Rattle.ncc_chunk.specs.declared.dechunker.Dechunk.{Dechunk}
 use Rattle.ncc_chunk.specs.declared.dechunker.Dechunk.TheVariants.{Again, TooLong}
 use Rattle.ncc_chunk.specs.declared.dechunker.Place.{Place}
 use Rattle.ncc_chunk.specs.declared.dechunker.Place.TheVariants.{Between, InBody, Stopped}
+use Rattle.ncc_chunk.specs.Chunks.{limit}
 use Rattle.ncc_chunk.specs.Inflow.{Inflow, Stands}
 
 -- The lists begin with these, and then comes one that begins with the body.
@@ -17,10 +18,10 @@ pub record Took (before : Inflow) (bytes : List ℕ) (after : Inflow) : Type 0 w
   pub stands : (stream : List ℕ) (handed : List (List ℕ)) → Stands before stream handed → Stands after (stream ++ bytes) handed
   pub begins : Begins before.ready before.body (after.ready ++ after.body ∷ [])
 
--- Bytes of a body are still to come where one stands.
-abbrev pub HasSome : Place → Type 0
-HasSome (InBody left) = 0 < left
-HasSome _ = Unit {0}
+-- So long a body is held at this place: within the limit, with what is still to come of a chunk's body, which is some.
+abbrev pub IsWithin : Place → ℕ → Type 0
+IsWithin (InBody left) held = (0 < left) × (held + left ≤ limit)
+IsWithin _ held = held ≤ limit
 
 -- the place in a body of which so many bytes are still to come
 abbrev pub place_by : ℕ → Place

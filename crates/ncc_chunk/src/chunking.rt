@@ -6,10 +6,16 @@ ghost use Rattle.ncc_chunk.specs.Chunked.{chunked, chunk_of};
 
 use ncc_pack::{Bytes, Memory};
 
+// How many bytes a chunk has at most.
+const MOST: usize = 65_535;
+
+// The bytes behind the last chunk of a message.
+const END: [u8; 2] = [0, 0];
+
 /// Appends a message in its chunks: of 65,535 bytes while more than that is left, then the rest, then 00 00.
 /// The message is not empty. An `Err` leaves `into` as it was.
 pub fn chunk(message: &[u8], into: &mut Bytes) -> Result<(), Memory>
-    requires { 0 < length message.now }
+    requires not_empty { 0 < length message.now }
     ensures ok { OnOk result (into.new ≡ into.old ++ chunked message.now) }
     ensures err { OnErr result (into.new ≡ into.old) }
 {
@@ -30,13 +36,13 @@ fn append(message: &[u8], into: &mut Bytes) -> Result<(), Memory>
     ensures err { OnErr result (Begins into.old into.new) }
 {
     let mut left = message;
-    while left.len() > 65_535 {
-        let (body, rest) = left.split_at(65_535);
+    while left.len() > MOST {
+        let (body, rest) = left.split_at(MOST);
         append_chunk(body, into)?;
         left = rest;
     }
     append_chunk(left, into)?;
-    into.extend(&[0, 0])
+    into.extend(&END)
 }
 
 // Appends one chunk. An `Err` may leave its head.

@@ -1,16 +1,18 @@
 //! The chunks that come in, as the Bolt Protocol message specification says in its section on chunking.
 
-ghost use Rattle.std.specs.Prelude.{◌≡◌, ◌++◌, ◌∷◌, [], ◌<◌, ◌≤◌, ◌+◌, ◌-◌, ◌⊎◌, ◌↔◌, ℕ, List, length, take, drop, min, map, IfOk, IfNone, IfSome, OnOk, OnErr, Ok, IsErrOf, IsTrue};
-ghost use Rattle.ncc_chunk.specs.Chunks.{Framed, EndsAfter, IsTooLongAfter, IsBetweenMessages, limit};
-ghost use Rattle.ncc_chunk.specs.Inflow.{Inflow, Stands};
-ghost use Rattle.ncc_chunk.specs.Keeping.{Took, Begins, HasSome, place_by, grown, ended, missing_at, first_of, without_first};
+ghost use Rattle.std.specs.Prelude.{◌≡◌, ◌++◌, ◌∷◌, [], ◌<◌, ◌≤◌, ◌+◌, ◌-◌, ◌⊎◌, ◌↔◌, ℕ, List, length, take, drop, min, map, IfOk};
+ghost use Rattle.std.specs.Prelude.{IfNone, IfSome, OnOk, OnErr, Ok, IsErrOf, IsTrue};
+ghost use Rattle.ncc_chunk.specs.Chunks.{EndsAfter, IsTooLongAfter, IsNextAfter, IsBetweenMessages, limit};
+ghost use Rattle.ncc_chunk.specs.Inflow.{Inflow, Stands, Feeds, HandsOut, ExactlyAt, IsPastLimit};
+ghost use Rattle.ncc_chunk.specs.Keeping.{Took, Begins, IsWithin, place_by, grown, ended, missing_at, first_of, without_first};
 
 use ncc_pack::{Bytes, Memory};
 use std::alloc::{AllocError, Global};
 use std::collections::VecDeque;
 use std::marker::Model;
+use thiserror::Error;
 
-/// How many bytes a message has at most.
+// How many bytes a message has at most.
 const LIMIT: usize = 1_048_576;
 
 /// Where in the next message the stream stands.
@@ -27,19 +29,22 @@ pub enum Place {
 }
 
 /// Why there is no message.
-#[derive(Clone, Copy, Debug, PartialEq, Eq)]
+#[derive(Clone, Copy, Debug, PartialEq, Eq, Error)]
 pub enum Dechunk {
     /// More bytes have to come.
+    #[error("more bytes have to come")]
     Again,
     /// The next message is longer than 1,048,576 bytes. There will be no more.
+    #[error("a message of more than 1048576 bytes")]
     TooLong,
     /// There was no memory.
+    #[error("out of memory")]
     Memory,
 }
 
 /// The reader of a stream of messages in chunks, fed in any pieces. A chunk is a size of two bytes, the greater first, which
 /// is not 0, and so many bytes; `00 00` ends a message, and is a no-op between messages. Of a message that is not whole
-/// at most 1,048,576 bytes are held.
+/// at most 1,048,576 bytes are held, and once one is too long, nothing more of the stream.
 #[derive(Drop)]
 pub struct Dechunker {
     ready: VecDeque<Vec<u8>>,
@@ -51,19 +56,20 @@ pub struct Dechunker {
 impl Model for Dechunker {
     ghost use Rattle.std.specs.Prelude.{map};
     ghost use Rattle.ncc_chunk.specs.Inflow.{Inflow};
-    ghost use Rattle.ncc_chunk.specs.Keeping.{HasSome};
+    ghost use Rattle.std.specs.Prelude.{length};
+    ghost use Rattle.ncc_chunk.specs.Keeping.{IsWithin};
 
     ghost Value = { Inflow };
 
     ghost view = { λ d. record { ready = map (λ v. v.items) d.ready.items; body = d.body.items; place = d.place } };
 
-    ghost invariant = { λ d. HasSome d.place };
+    ghost invariant = { λ d. IsWithin d.place (length d.body.items) };
 }
 
 impl Dechunker {
     /// A dechunker that was fed nothing.
     pub fn new(alloc: Global) -> Result<Dechunker, Memory>
-        ensures { IfOk result (λ d. Stands d [] []) }
+        ensures made { IfOk result (λ d. Stands d [] []) }
     {
         Ok(Dechunker {
             ready: VecDeque::new(alloc),
@@ -73,10 +79,13 @@ impl Dechunker {
         })
     }
 
-    /// Takes the next piece of the stream, of any length. An `Err` changes nothing.
+    /// Takes the next piece of the stream, of any length. An `Err` changes nothing. Once a message is too long, nothing of
+    /// what comes is kept.
     pub fn feed(&mut self, piece: &[u8]) -> Result<(), Memory>
-        ensures ok { OnOk result ((stream : List ℕ) (handed : List (List ℕ)) → Stands self.old stream handed → Stands self.new (stream ++ piece.now) handed) }
+        ensures ok { OnOk result (Feeds self.old piece.now self.new) }
         ensures err { OnErr result (self.new ≡ self.old) }
+        ensures bounded { length self.new.body ≤ limit }
+        ensures past_limit { IsPastLimit self.old → self.new ≡ self.old }
     {
         let (ready, body, place) = self.mark();
         match self.take_all(piece) {
@@ -88,30 +97,26 @@ impl Dechunker {
         }
     }
 
-    /// Hands out the next message. `Again` says that it is not whole yet, and `TooLong` that the sizes of its chunks
-    /// pass 1,048,576, which stays so. An `Err` changes nothing.
+    /// Hands out the next message, which is moved and not copied. `Again` says that it is not whole yet, and `TooLong`
+    /// that the sizes of its chunks pass 1,048,576, which stays so. An `Err` changes nothing. It takes no memory, and so
+    /// never answers `Memory`.
     pub fn next_message(&mut self) -> Result<Bytes, Dechunk>
-        ensures ok { IfOk result (λ m. (stream : List ℕ) (handed : List (List ℕ)) → Stands self.old stream handed → Stands self.new stream (handed ++ m ∷ [])) }
+        ensures ok { IfOk result (λ m. HandsOut self.old m self.new) }
         ensures err { OnErr result (self.new ≡ self.old) }
-        ensures again { (stream : List ℕ) (handed : List (List ℕ)) → Stands self.old stream handed → (IsErrOf result Dechunk.Again ↔ EndsAfter stream handed) }
-        ensures too_long { (stream : List ℕ) (handed : List (List ℕ)) → Stands self.old stream handed → (IsErrOf result Dechunk.TooLong ↔ IsTooLongAfter stream handed) }
-        // Where the next message is whole, it is handed out, unless memory runs out.
-        ensures whole { (stream rest message : List ℕ) (handed more : List (List ℕ)) → Stands self.old stream handed → Framed stream (handed ++ message ∷ more) rest → (result ≡ Ok message) ⊎ IsErrOf result Dechunk.Memory }
+        ensures again { ExactlyAt (λ stream handed. EndsAfter stream handed) self.old (IsErrOf result Dechunk.Again) }
+        ensures too_long { ExactlyAt (λ stream handed. IsTooLongAfter stream handed) self.old (IsErrOf result Dechunk.TooLong) }
+        ensures whole { (message : List ℕ) → ExactlyAt (λ stream handed. IsNextAfter stream handed message) self.old (result ≡ Ok message) }
     {
-        match copy_first(self.alloc, &self.ready) {
-            Ok(Some(message)) => {
-                self.drop_first();
-                Ok(message)
-            }
-            Ok(None) => Err(self.missing()),
-            Err(_) => Err(Dechunk::Memory),
+        match self.take_first() {
+            Some(message) => Ok(message),
+            None => Err(self.missing()),
         }
     }
 
     /// Says whether no byte of an unfinished message or of a chunk's head is held. Whole messages that are not yet
     /// handed out don't count. After `TooLong` it is false.
     pub fn idle(&self) -> bool
-        ensures { (stream : List ℕ) (handed : List (List ℕ)) → Stands self.now stream handed → (IsTrue result ↔ IsBetweenMessages stream) }
+        ensures between { ExactlyAt (λ stream handed. IsBetweenMessages stream) self.now (IsTrue result) }
     {
         match self.place {
             Place::Between => self.body.is_empty(),
@@ -119,11 +124,15 @@ impl Dechunker {
         }
     }
 
-    // Lets the first ready message go.
-    fn drop_first(&mut self)
-        ensures { self.new ≡ without_first self.old }
+    // Takes the first ready message out.
+    fn take_first(&mut self) -> Option<Bytes>
+        ensures first { result ≡ first_of self.old.ready }
+        ensures others { self.new ≡ without_first self.old }
     {
-        let _first = self.ready.pop_front();
+        match self.ready.pop_front() {
+            Some(message) => Some(Bytes::from_vec(message)),
+            None => None,
+        }
     }
 
     // Why no message is ready.
@@ -141,7 +150,7 @@ impl Dechunker {
         ensures ready { result.0 ≡ length self.now.ready }
         ensures body { result.1 ≡ length self.now.body }
         ensures place { result.2 ≡ self.now.place }
-        ensures some { HasSome result.2 }
+        ensures within { IsWithin result.2 result.1 }
     {
         (self.ready.len(), self.body.len(), self.place)
     }
@@ -150,6 +159,8 @@ impl Dechunker {
     fn take_all(&mut self, piece: &[u8]) -> Result<(), AllocError>
         ensures ok { OnOk result (Took self.old piece.now self.new) }
         ensures err { OnErr result (Begins self.old.ready self.old.body (self.new.ready ++ self.new.body ∷ [])) }
+        ensures bounded { length self.old.body ≤ limit → length self.new.body ≤ limit }
+        ensures stopped { self.old.place ≡ Place.Stopped → self.new ≡ self.old }
     {
         let mut at = 0;
         while at < piece.len() {
@@ -164,6 +175,8 @@ impl Dechunker {
         ensures within { IfOk result (λ n. (0 < n) × (n ≤ length piece.now)) }
         ensures ok { IfOk result (λ n. Took self.old (take n piece.now) self.new) }
         ensures err { OnErr result (self.new ≡ self.old) }
+        ensures bounded { length self.new.body ≤ limit }
+        ensures stopped { self.old.place ≡ Place.Stopped → self.new ≡ self.old }
     {
         match self.place {
             Place::Between => {
@@ -184,6 +197,7 @@ impl Dechunker {
         requires { self.old.place ≡ Place.InHead first }
         ensures ok { OnOk result (Took self.old (second ∷ []) self.new) }
         ensures err { OnErr result (self.new ≡ self.old) }
+        ensures bounded { length self.new.body ≤ limit }
     {
         let size = usize::from(first) * 256 + usize::from(second);
         if size == 0 {
@@ -197,6 +211,7 @@ impl Dechunker {
     fn end_message(&mut self) -> Result<(), AllocError>
         ensures ok { OnOk result (self.new ≡ ended self.old) }
         ensures err { OnErr result (self.new ≡ self.old) }
+        ensures bounded { length self.new.body ≤ limit }
     {
         if !self.body.is_empty() {
             self.ready.reserve(1)?;
@@ -215,6 +230,7 @@ impl Dechunker {
         ensures within { IfOk result (λ n. (0 < n) × (n ≤ length piece.now)) }
         ensures ok { IfOk result (λ n. (n ≤ left) × (self.new ≡ grown self.old left (take n piece.now))) }
         ensures err { OnErr result (self.new ≡ self.old) }
+        ensures bounded { length self.new.body ≤ limit }
     {
         let count = left.min(piece.len());
         let (part, _) = piece.split_at(count);
@@ -225,8 +241,9 @@ impl Dechunker {
 
     // Puts back what was kept before: so many messages, so long a body, and the place.
     fn restore(&mut self, ready: usize, body: usize, place: Place)
-        requires place { HasSome place }
-        ensures { (rs : List (List ℕ)) (b : List ℕ) → ready ≡ length rs → body ≡ length b → Begins rs b (self.old.ready ++ self.old.body ∷ []) → self.new ≡ record { ready = rs; body = b; place = place } }
+        requires place { IsWithin place body }
+        ensures { (rs : List (List ℕ)) (b : List ℕ) → ready ≡ length rs → body ≡ length b
+            → Begins rs b (self.old.ready ++ self.old.body ∷ []) → self.new ≡ record { ready = rs; body = b; place = place } }
     {
         if let Some(message) = cut_back(&mut self.ready, ready) {
             self.body = message;
@@ -238,28 +255,16 @@ impl Dechunker {
 
 // Lets go all but so many messages, and hands out the first that goes.
 fn cut_back(ready: &mut VecDeque<Vec<u8>>, count: usize) -> Option<Vec<u8>>
-    ensures none { IfNone result ((map (λ m. m.items) ready.new.items ≡ map (λ m. m.items) ready.old.items) × (length (map (λ m. m.items) ready.old.items) ≤ count)) }
-    ensures some { IfSome result (λ first. (take (count + 1) (map (λ m. m.items) ready.old.items) ≡ map (λ m. m.items) ready.new.items ++ first.items ∷ []) × (count < length (map (λ m. m.items) ready.old.items))) }
+    ensures none { IfNone result ((map (λ m. m.items) ready.new.items ≡ map (λ m. m.items) ready.old.items)
+        × (length (map (λ m. m.items) ready.old.items) ≤ count)) }
+    ensures some { IfSome result (λ first. (take (count + 1) (map (λ m. m.items) ready.old.items) ≡
+        map (λ m. m.items) ready.new.items ++ first.items ∷ []) × (count < length (map (λ m. m.items) ready.old.items))) }
 {
     if ready.len() <= count {
         return None;
     }
     ready.truncate(count + 1);
     ready.pop_back()
-}
-
-// A copy of the first message, if there is one.
-fn copy_first(alloc: Global, ready: &VecDeque<Vec<u8>>) -> Result<Option<Bytes>, AllocError>
-    ensures ok { IfOk result (λ first. first ≡ first_of (map (λ m. m.items) ready.now.items)) }
-    ensures err { OnErr result (0 < length (map (λ m. m.items) ready.now.items)) }
-{
-    match ready.front() {
-        Some(first) => {
-            let message = Bytes::from_slice(alloc, first.as_slice())?;
-            Ok(Some(message))
-        }
-        None => Ok(None),
-    }
 }
 
 // Where a head leads whose chunk has so many bytes, in a message of which so many are held.

@@ -6,7 +6,13 @@ ghost use Rattle.ncc_chunk.specs.Handshake.{covers, proposals, answer_to, answer
 
 use std::marker::Model;
 
+// What a handshake begins with.
 const MAGIC: [u8; 4] = [0x60, 0x60, 0xb0, 0x17];
+
+// The version that is spoken here.
+const MAJOR: u8 = 4;
+
+const MINOR: u8 = 4;
 
 /// What a handshake has come to. The Bolt Protocol handshake specification, the section on the negotiation of a version.
 #[derive(Clone, Copy, Debug, PartialEq, Eq)]
@@ -42,7 +48,7 @@ impl Model for Handshake {
 impl Handshake {
     /// A handshake of which nothing has come. It takes no memory.
     pub fn new() -> Handshake
-        ensures { result ≡ [] }
+        ensures made { result ≡ [] }
     {
         Handshake {
             bytes: [0; 20],
@@ -91,7 +97,7 @@ fn covers_it(proposal: &[u8]) -> bool
 {
     match proposal {
         [_, range, minor, major] => {
-            *major == 4 && *minor >= 4 && minor.saturating_sub(*range) <= 4
+            *major == MAJOR && *minor >= MINOR && minor.saturating_sub(*range) <= MINOR
         }
         _ => false,
     }

@@ -5,13 +5,11 @@ mod chunking;
 mod dechunker;
 mod handshake;
 mod laws;
-#[cfg(test)]
-mod tests;
 
 pub use chunking::chunk;
 pub use dechunker::{Dechunk, Dechunker};
 pub use handshake::{Handshake, Shake};
 pub use laws::{
-    every_stream_reads, handshake_goes_on, messages_are_one, messages_go_on, sent_is_read,
-    too_long_stays,
+    every_stream_reads, handshake_goes_on, messages_are_functions, messages_are_one,
+    messages_go_on, sent_is_read, too_long_stays,
 };

@@ -19,13 +19,13 @@ use Rattle.ncc_cypher.specs.declared.state.State.TheVariants as s
 use Rattle.ncc_cypher.specs.Token as k
 use Rattle.ncc_cypher.specs.Token.{Begins, Placed, Tokens, tokens_of, past_blanks, is_blank}
 use Rattle.ncc_cypher.specs.Scan.{token_at, lexeme_at}
-use Rattle.ncc_cypher.specs.Grammar.{Spells}
+use Rattle.ncc_cypher.specs.Grammar.{Name, Spells}
 use Rattle.ncc_cypher.specs.Columns.{columns, between}
 use Rattle.ncc_cypher.specs.Machine.{step, accepts, then_run, run}
 use Rattle.ncc_cypher.specs.Marks.{no_marks, mark_more, finish}
 use Rattle.ncc_cypher.specs.Spelled.{Spelled, Continued, Stopped, IsOrMemory}
 use Rattle.ncc_cypher.specs.Outcome.{with_columns, ended, Outcome}
-use Rattle.ncc_cypher.proofs.Sources.{token_begins, none_begins, tokens_more, goes_further, Left, all_tokens, has_source}
+use Rattle.ncc_cypher.proofs.Sources.{token_begins, none_begins, tokens_more, goes_further, nothing, Left, all_tokens, has_source}
 use Rattle.ncc_cypher.proofs.Marked.{Marked, marked_none, marked_more, finished}
 use Rattle.ncc_cypher.proofs.Sound.{sound}
 use Rattle.ncc_cypher.proofs.Complete.{complete, bare, run_on}
@@ -45,7 +45,7 @@ number_some : (ds : List ℕ) → IsNumber ds → 0 < length ds
 number_some _ (zero b e) = omega arith
 number_some _ (more b bs e f) = omega arith
 
-written_some : (x : Lexeme) (w : List ℕ) → Writes x w → 0 < length w
+pub written_some : (x : Lexeme) (w : List ℕ) → Writes x w → 0 < length w
 written_some _ _ (a_word b bs e f) = omega arith
 written_some _ _ (plus ds e) = number_some ds e
 written_some _ _ (minus b ds e f) = omega arith
@@ -74,35 +74,47 @@ tokens_front _ _ _ (k.more bytes rest end t others b o) =
 
 -- ---- how far the reading is
 
-pub record Reached (source rest : List ℕ) (x : State) (marks : Marks) : Type 0 where
+pub record Reached (source rest : List ℕ) (x : State) : Type 0 where
   pub placed : List Placed
   pub tokens : Tokens source placed rest
   pub goes : run s.Start (tokens_of placed) ≡ Some x
-  pub marked : Marked placed rest marks
 
-pub reached_none : (source : List ℕ) → Reached source source s.Start no_marks
+pub record Reading (source rest : List ℕ) (x : State) (marks : Marks) : Type 0 where
+  pub reached : Reached source rest x
+  pub marked : Marked reached.placed rest marks
+
+pub none_run : run s.Start [] ≡ Some s.Start
 unfolding run
-reached_none source = record { placed = []; tokens = k.stop source; goes = refl; marked = marked_none source }
+none_run = refl
 
-tokens_append : (ps qs : List Placed) → tokens_of (ps ++ qs) ≡ tokens_of ps ++ tokens_of qs
+abbrev pub nowhere : (source : List ℕ) → Reached source source s.Start
+nowhere source = record { placed = []; tokens = k.stop source; goes = none_run }
+
+pub reading_none : (source : List ℕ) → Reading source source s.Start no_marks
+reading_none source = record { reached = nowhere source; marked = marked_none source }
+
+pub tokens_append : (ps qs : List Placed) → tokens_of (ps ++ qs) ≡ tokens_of ps ++ tokens_of qs
 tokens_append [] qs = refl
 tokens_append (p ∷ ps) qs = ap (λ (z : List Token). p.what ∷ z) (tokens_append ps qs)
 
-one_step : (ts : List Token) (t : Token) (x : State) (o : Option State) → run s.Start ts ≡ Some x → step x t ≡ o → run s.Start (ts ++ (t ∷ [])) ≡ then_run (λ z. Some z) o
+pub one_step : (ts : List Token) (t : Token) (x : State) (o : Option State) → run s.Start ts ≡ Some x → step x t ≡ o → run s.Start (ts ++ (t ∷ [])) ≡ then_run (λ z. Some z) o
 unfolding run
 one_step ts t x o e f = run_on ts (t ∷ []) s.Start ∙ ap (then_run (λ z. run z (t ∷ []))) e ∙ ap (then_run (λ z. Some z)) f
 
-pub reached_more : (source rest after : List ℕ) (x y : State) (marks : Marks) (t : Token) → Reached source rest x marks → token_at (past_blanks rest) ≡ Some (t, after) → step x t ≡ Some y → Reached source after y (mark_more marks t (between rest after) (between (past_blanks rest) after))
-reached_more source rest after x y marks t r e f =
-    let b = token_begins (past_blanks rest) t after e in
-    let w = token_front rest t after b in
+abbrev pub further : (source rest after : List ℕ) (x y : State) (t : Token) → Reached source rest x → Begins (past_blanks rest) t after → step x t ≡ Some y → Reached source after y
+further source rest after x y t r b f =
     let p : Placed = record { what = t; from = past_blanks rest; to = after } in
     record {
       placed = r.placed ++ (p ∷ []);
       tokens = tokens_more source r.placed rest t after r.tokens b;
       goes = ap (run s.Start) (tokens_append r.placed (p ∷ [])) ∙ one_step (tokens_of r.placed) t x (Some y) r.goes f;
-      marked = marked_more r.placed rest marks t (past_blanks rest) after w.0 w.2.0 w.1 w.2.1 r.marked;
     }
+
+pub reading_more : (source rest after : List ℕ) (x y : State) (marks : Marks) (t : Token) → Reading source rest x marks → token_at (past_blanks rest) ≡ Some (t, after) → step x t ≡ Some y → Reading source after y (mark_more marks t (between rest after) (between (past_blanks rest) after))
+reading_more source rest after x y marks t r e f =
+    let b = token_begins (past_blanks rest) t after e in
+    let w = token_front rest t after b in
+    record { reached = further source rest after x y t r.reached b f; marked = marked_more r.reached.placed rest marks t (past_blanks rest) after w.0 w.2.0 w.1 w.2.1 r.marked }
 
 -- ---- what is said at the end
 
@@ -122,17 +134,17 @@ no_statement_is x e = cc
 any_columns : (y : Statement) (cs : List Value) (ts : List Token) → Spells y ts → Spells (record y { columns = cs }) ts
 any_columns y cs ts w = record { choice = w.choice; head = w.head; change = w.change; tail = w.tail; goes = w.goes; same = w.same }
 
-pub is_spelled : (source rest : List ℕ) (x : State) (marks : Marks) (y : Statement) → Reached source rest x marks → past_blanks rest ≡ [] → accepts x ≡ Some y → Spelled (record y { columns = map v.Text (finish marks) }) source
-is_spelled source rest x marks y r n a = record {
+pub is_spelled : (source rest : List ℕ) (x : State) (y : Statement) (names : List Name) → (r : Reached source rest x) → names ≡ columns r.placed → past_blanks rest ≡ [] → accepts x ≡ Some y → Spelled (record y { columns = map v.Text names }) source
+is_spelled source rest x y names r c n a = record {
   placed = r.placed;
   end = rest;
   tokens = r.tokens;
   nothing = n;
-  spells = any_columns y (map v.Text (finish marks)) (tokens_of r.placed) (sound (tokens_of r.placed) x y r.goes a);
-  columns = ap (map v.Text) (finished r.placed rest marks r.marked);
+  spells = any_columns y (map v.Text names) (tokens_of r.placed) (sound (tokens_of r.placed) x y r.goes a);
+  columns = ap (map v.Text) c;
 }
 
-is_continued : (source rest : List ℕ) (placed : List Placed) (x : State) → Tokens source placed rest → run s.Start (tokens_of placed) ≡ Some x → Continued (tokens_of placed)
+pub is_continued : (source rest : List ℕ) (placed : List Placed) (x : State) → Tokens source placed rest → run s.Start (tokens_of placed) ≡ Some x → Continued (tokens_of placed)
 is_continued source rest placed x o e =
     let c = completed (tokens_of placed) x e (all_tokens source placed rest o) in
     let f = has_source (tokens_of placed ++ c.more) c.all in
@@ -145,14 +157,14 @@ is_continued source rest placed x o e =
     }
 
 -- no spelling goes on where the machine doesn't
-not_continued : (ts : List Token) → run s.Start ts ≡ None → Continued ts → ⊥
+pub not_continued : (ts : List Token) → run s.Start ts ≡ None → Continued ts → ⊥
 not_continued ts e c =
     let w = complete (tokens_of c.spelled.placed) c.statement c.spelled.spells in
     no_state_is w.end (sym (ap (run s.Start) c.same ∙ run_on ts c.more s.Start ∙ ap (then_run (λ z. run z c.more)) e) ∙ w.goes)
 
 -- a spelled source begins with the tokens read
 begins_so : (source rest : List ℕ) (placed : List Placed) (y : Statement) → Tokens source placed rest → (p : Spelled y source) → Left placed p.placed rest p.end
-begins_so source rest placed y o p = goes_further source placed rest p.placed p.end o p.tokens p.nothing
+begins_so source rest placed y o p = goes_further source placed rest p.placed p.end o p.tokens (nothing (past_blanks p.end) p.nothing)
 
 pub place_is : (source rest : List ℕ) (placed : List Placed) → Tokens source placed rest → (length source - length (past_blanks rest)) + length (past_blanks rest) ≡ length source
 place_is source rest placed o =
@@ -160,8 +172,8 @@ place_is source rest placed o =
     let b = blank_front rest in
     omega (arith, ap length f.1, length-append f.0 rest, ap length b.1, length-append b.0 (past_blanks rest))
 
-pub is_unexpected : (source rest after : List ℕ) (x : State) (marks : Marks) (t : Token) → Reached source rest x marks → token_at (past_blanks rest) ≡ Some (t, after) → step x t ≡ None → Stopped source (length source - length (past_blanks rest)) Unexpected
-is_unexpected source rest after x marks t r e f =
+pub is_unexpected : (source rest after : List ℕ) (x : State) (t : Token) → Reached source rest x → token_at (past_blanks rest) ≡ Some (t, after) → step x t ≡ None → Stopped source (length source - length (past_blanks rest)) Unexpected
+is_unexpected source rest after x t r e f =
     let b = token_begins (past_blanks rest) t after e in
     let none = one_step (tokens_of r.placed) t x None r.goes f in
     let p : Placed = record { what = t; from = past_blanks rest; to = after } in
@@ -181,7 +193,7 @@ is_unexpected source rest after x marks t r e f =
 
 -- ---- where no token begins
 
-left_none : (rest : List ℕ) (left : List Placed) (whole : List ℕ) → Tokens rest left whole → token_at (past_blanks rest) ≡ None → (left ≡ []) × (rest ≡ whole)
+pub left_none : (rest : List ℕ) (left : List Placed) (whole : List ℕ) → Tokens rest left whole → token_at (past_blanks rest) ≡ None → (left ≡ []) × (rest ≡ whole)
 left_none _ _ _ (k.stop rest) e = (refl, refl)
 left_none _ _ _ (k.more rest after whole t others b o) e = absurd (none_begins (past_blanks rest) e t after b)
 
@@ -191,8 +203,8 @@ same_tokens source rest placed y o e p =
     let n = left_none rest l.left p.end l.tokens e in
     (l.parts ∙ ap (λ (z : List Placed). placed ++ z) n.0 ∙ append-nil placed, ap past_blanks n.1 ∙ p.nothing)
 
-pub is_bad : (source rest : List ℕ) (x : State) (marks : Marks) → Reached source rest x marks → token_at (past_blanks rest) ≡ None → (past_blanks rest ≡ [] → accepts x ≡ None) → Stopped source (length source - length (past_blanks rest)) BadToken
-is_bad source rest x marks r e f = record {
+pub is_bad : (source rest : List ℕ) (x : State) → Reached source rest x → token_at (past_blanks rest) ≡ None → (past_blanks rest ≡ [] → accepts x ≡ None) → Stopped source (length source - length (past_blanks rest)) BadToken
+is_bad source rest x r e f = record {
   placed = r.placed;
   end = rest;
   tokens = r.tokens;
@@ -211,14 +223,9 @@ is_bad source rest x marks r e f = record {
 whole_is : (y z : Statement) → bare y ≡ bare z → y.columns ≡ z.columns → y ≡ z
 whole_is y z e f = ap (λ (q : Statement). record q { columns = y.columns }) e ∙ ap (λ (q : List Value). record z { columns = q }) f
 
-none_left : (bs : List ℕ) → bs ≡ [] → token_at bs ≡ None
-unfolding token_at lexeme_at
-none_left [] e = refl
-none_left (b ∷ bs) e = absurd cc
-
 pub unique : (source : List ℕ) (y z : Statement) → Spelled y source → Spelled z source → y ≡ z
 unique source y z p q =
-    let e = same_tokens source p.end p.placed z p.tokens (none_left (past_blanks p.end) p.nothing) q in
+    let e = same_tokens source p.end p.placed z p.tokens (nothing (past_blanks p.end) p.nothing) q in
     let c = complete (tokens_of p.placed) y p.spells in
     let d = complete (tokens_of q.placed) z q.spells in
     let i : c.end ≡ d.end = state_is c.end d.end (sym c.goes ∙ ap (λ (u : List Placed). run s.Start (tokens_of u)) (sym e.0) ∙ d.goes) in
@@ -227,17 +234,17 @@ unique source y z p q =
 
 -- ---- the answers
 
-by_accept : (source rest : List ℕ) (x : State) (marks : Marks) (o : Option Statement) → Reached source rest x marks → token_at (past_blanks rest) ≡ None → past_blanks rest ≡ [] → accepts x ≡ o → Outcome source (with_columns (length source - length (past_blanks rest)) (finish marks) o)
-by_accept source rest x marks None r e n a = is_bad source rest x marks r e (λ z. a)
-by_accept source rest x marks (Some y) r e n a = is_spelled source rest x marks y r n a
+by_accept : (source rest : List ℕ) (x : State) (marks : Marks) (o : Option Statement) → Reading source rest x marks → token_at (past_blanks rest) ≡ None → past_blanks rest ≡ [] → accepts x ≡ o → Outcome source (with_columns (length source - length (past_blanks rest)) (finish marks) o)
+by_accept source rest x marks None r e n a = is_bad source rest x r.reached e (λ z. a)
+by_accept source rest x marks (Some y) r e n a = is_spelled source rest x y (finish marks) r.reached (finished r.reached.placed rest marks r.marked) n a
 
 abbrev empty_or_not : List ℕ → Bool → Type 0
 empty_or_not bs true = bs ≡ []
 empty_or_not bs false = bs ≡ [] → ⊥
 
-by_end : (source rest : List ℕ) (x : State) (marks : Marks) (b : Bool) → Reached source rest x marks → token_at (past_blanks rest) ≡ None → empty_or_not (past_blanks rest) b → Outcome source (ended x marks b (length source - length (past_blanks rest)))
+by_end : (source rest : List ℕ) (x : State) (marks : Marks) (b : Bool) → Reading source rest x marks → token_at (past_blanks rest) ≡ None → empty_or_not (past_blanks rest) b → Outcome source (ended x marks b (length source - length (past_blanks rest)))
 by_end source rest x marks true r e n = by_accept source rest x marks (accepts x) r e n refl
-by_end source rest x marks false r e n = is_bad source rest x marks r e (λ z. absurd (n z))
+by_end source rest x marks false r e n = is_bad source rest x r.reached e (λ z. absurd (n z))
 
 truth : true ≡ false → ⊥
 truth e = cc
@@ -256,7 +263,7 @@ memory_free source (Ok y) q e f = subst (Outcome source) e f
 memory_free source (Err Memory) q e f = tt
 memory_free source (Err (Syntax at kind)) q e f = subst (Outcome source) e f
 
-pub is_ended : (source rest : List ℕ) (x : State) (marks : Marks) (b : Bool) (at : ℕ) (r : Result Statement ParseError) → Reached source rest x marks → token_at (past_blanks rest) ≡ None → b ≡ (length (past_blanks rest) == 0) → at ≡ length source - length (past_blanks rest) → IsOrMemory r (ended x marks b at) → Outcome source r
+pub is_ended : (source rest : List ℕ) (x : State) (marks : Marks) (b : Bool) (at : ℕ) (r : Result Statement ParseError) → Reading source rest x marks → token_at (past_blanks rest) ≡ None → b ≡ (length (past_blanks rest) == 0) → at ≡ length source - length (past_blanks rest) → IsOrMemory r (ended x marks b at) → Outcome source r
 is_ended source rest x marks b at r w e n p q = memory_free source r (ended x marks b at) q (subst (λ (z : ℕ). Outcome source (ended x marks b z)) (sym p) (by_end source rest x marks b w e (is_empty_by (past_blanks rest) b n)))
 
 -- what the contract of `parse` says

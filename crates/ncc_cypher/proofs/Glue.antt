@@ -1,5 +1,5 @@
 -- Texts that are read as tokens, whatever follows or where no word goes on.
-use Rattle.std.proofs.Common.{◌≡◌, ℕ, ℤ, zero, suc, ◌<◌, ◌≤◌, Bool, true, false, cond, List, [], ◌∷◌, ◌++◌, length, get_or, Option, Some, None, refl, sym, ap, subst, ◌∙◌, append_assoc, arith}
+use Rattle.std.proofs.Common.{◌≡◌, ℕ, ℤ, zero, suc, ◌<◌, ◌≤◌, Bool, true, false, cond, List, [], ◌∷◌, ◌++◌, length, get_or, Option, Some, None, refl, sym, ap, subst, ◌∙◌, arith}
 use Rattle.std.specs.Prelude.{◌==◌, ◌^◌, pos, negsuc, nat_lt}
 use Rattle.std.specs.List.{prefix_len}
 use Rattle.std.specs.Fmt.{decimal, signed_decimal}
@@ -51,10 +51,6 @@ Reads text ts = (rest : List ℕ) (us : List Token) → Clean rest → Has rest 
 abbrev pub Firm : List ℕ → List Token → Type 0
 Firm text ts = (rest : List ℕ) (us : List Token) → Has rest us → Has (text ++ rest) (ts ++ us)
 
--- nothing that these bytes begin goes on a word
-abbrev pub Starts : List ℕ → Type 0
-Starts text = (rest : List ℕ) → Clean (text ++ rest)
-
 has_more : (t : Token) (w rest : List ℕ) (us : List Token) → Begins (past_blanks (w ++ rest)) t rest → Has rest us → Has (w ++ rest) (t ∷ us)
 has_more t w rest us b h = record {
   placed = record { what = t; from = past_blanks (w ++ rest); to = rest } ∷ h.placed;
@@ -78,81 +74,38 @@ space_firm = λ rest us h. let s = behind_space rest h.placed h.end h.tokens h.n
 pub firm_reads : (a : List ℕ) (ts : List Token) → Firm a ts → Reads a ts
 firm_reads a ts f = λ rest us c h. f rest us h
 
-glued : (a b rest : List ℕ) (ts us vs : List Token) → Has (a ++ (b ++ rest)) (ts ++ (us ++ vs)) → Has ((a ++ b) ++ rest) ((ts ++ us) ++ vs)
-glued a b rest ts us vs h = subst (λ (z : List ℕ). Has z ((ts ++ us) ++ vs)) (sym (append_assoc a b rest)) (subst (λ (z : List Token). Has (a ++ (b ++ rest)) z) (sym (append_assoc ts us vs)) h)
-
-pub firm_firm : (a b : List ℕ) (ts us : List Token) → Firm a ts → Firm b us → Firm (a ++ b) (ts ++ us)
-firm_firm a b ts us f g = λ rest vs h. glued a b rest ts us vs (f (b ++ rest) (us ++ vs) (g rest vs h))
-
-pub firm_then : (a b : List ℕ) (ts us : List Token) → Firm a ts → Reads b us → Reads (a ++ b) (ts ++ us)
-firm_then a b ts us f g = λ rest vs c h. glued a b rest ts us vs (f (b ++ rest) (us ++ vs) (g rest vs c h))
-
-pub reads_then : (a b : List ℕ) (ts us : List Token) → Reads a ts → Starts b → Reads b us → Reads (a ++ b) (ts ++ us)
-reads_then a b ts us f s g = λ rest vs c h. glued a b rest ts us vs (f (b ++ rest) (us ++ vs) (s rest) (g rest vs c h))
-
-pub reads_firm : (a b : List ℕ) (ts us : List Token) → Reads a ts → Starts b → Firm b us → Firm (a ++ b) (ts ++ us)
-reads_firm a b ts us f s g = λ rest vs h. glued a b rest ts us vs (f (b ++ rest) (us ++ vs) (s rest) (g rest vs h))
-
-pub nothing_firm : Firm [] []
-nothing_firm = λ rest us h. h
-
-starts_by : (b : ℕ) (bs : List ℕ) → is_word b ≡ false → is_digit b ≡ false → Starts (b ∷ bs)
-starts_by b bs e f = λ rest. record { word = rw e refl; digit = rw f refl }
-
-pub starts_space : (bs : List ℕ) → Starts (32 ∷ bs)
-unfolding class
-starts_space bs = starts_by 32 bs refl refl
-
-pub starts_dot : (bs : List ℕ) → Starts (46 ∷ bs)
-unfolding class
-starts_dot bs = starts_by 46 bs refl refl
-
-pub starts_colon : (bs : List ℕ) → Starts (58 ∷ bs)
-unfolding class
-starts_colon bs = starts_by 58 bs refl refl
-
-pub starts_comma : (bs : List ℕ) → Starts (44 ∷ bs)
-unfolding class
-starts_comma bs = starts_by 44 bs refl refl
-
-pub starts_close : (bs : List ℕ) → Starts (41 ∷ bs)
-unfolding class
-starts_close bs = starts_by 41 bs refl refl
-
-pub starts_right : (bs : List ℕ) → Starts (125 ∷ bs)
-unfolding class
-starts_right bs = starts_by 125 bs refl refl
-
-pub starts_open : (bs : List ℕ) → Starts (40 ∷ bs)
-unfolding class
-starts_open bs = starts_by 40 bs refl refl
-
 -- ---- names
 
-truth : true ≡ false → ⊥
-truth e = cc
+-- neither a keyword nor a sign
+abbrev IsValue : Token → Type 0
+IsValue (t.Name n) = Unit {0}
+IsValue (t.Int i) = Unit {0}
+IsValue _ = ⊥
 
-keyword_or : (b : Bool) (y : Token) (o : Option Token) (n : List ℕ) → (Some y ≡ Some (t.Name n) → ⊥) → (o ≡ Some (t.Name n) → ⊥) → cond b (Some y) o ≡ Some (t.Name n) → ⊥
-keyword_or true y o n f g e = f e
-keyword_or false y o n f g e = g e
+some_token : (y u : Token) → Some y ≡ Some u → y ≡ u
+some_token y u e = cc
 
-no_option : (n : List ℕ) → None ≡ Some (t.Name n) → ⊥
-no_option n e = cc
+no_value : (b : Bool) (y : Token) (o : Option Token) (u : Token) → IsValue u → (IsValue y → ⊥) → (o ≡ Some u → ⊥) → cond b (Some y) o ≡ Some u → ⊥
+no_value true y o u i f g e = f (subst IsValue (sym (some_token y u e)) i)
+no_value false y o u i f g e = g e
 
-no_keyword : (w n : List ℕ) → keyword w ≡ Some (t.Name n) → ⊥
+none_is : (u : Token) → None ≡ Some u → ⊥
+none_is u e = cc
+
+no_keyword : (w : List ℕ) (u : Token) → IsValue u → keyword w ≡ Some u → ⊥
 unfolding keyword
-no_keyword w n e =
-    keyword_or _ t.Create _ n (λ z. cc)
-    (keyword_or _ t.Match _ n (λ z. cc)
-    (keyword_or _ t.Merge _ n (λ z. cc) (keyword_or _ t.Set _ n (λ z. cc) (keyword_or _ t.Delete _ n (λ z. cc) (keyword_or _ t.Return _ n (λ z. cc) (keyword_or _ t.As _ n (λ z. cc) (keyword_or _ t.True _ n (λ z. cc) (keyword_or _ t.False _ n (λ z. cc) (keyword_or _ t.Null _ n (λ z. cc) (no_option n))))))))))
+no_keyword w u i e =
+    no_value _ t.Create _ u i (λ z. z)
+    (no_value _ t.Match _ u i (λ z. z)
+    (no_value _ t.Merge _ u i (λ z. z) (no_value _ t.Set _ u i (λ z. z) (no_value _ t.Delete _ u i (λ z. z) (no_value _ t.Return _ u i (λ z. z) (no_value _ t.As _ u i (λ z. z) (no_value _ t.True _ u i (λ z. z) (no_value _ t.False _ u i (λ z. z) (no_value _ t.Null _ u i (λ z. z) (none_is u))))))))))
     e
 
-no_sign : (b : ℕ) (n : List ℕ) → sign_of b ≡ Some (t.Name n) → ⊥
+no_sign : (b : ℕ) (u : Token) → IsValue u → sign_of b ≡ Some u → ⊥
 unfolding sign_of
-no_sign b n e =
-    keyword_or _ t.Open _ n (λ z. cc)
-    (keyword_or _ t.Close _ n (λ z. cc)
-    (keyword_or _ t.LeftBrace _ n (λ z. cc) (keyword_or _ t.RightBrace _ n (λ z. cc) (keyword_or _ t.Colon _ n (λ z. cc) (keyword_or _ t.Comma _ n (λ z. cc) (keyword_or _ t.Dot _ n (λ z. cc) (keyword_or _ t.Equals _ n (λ z. cc) (keyword_or _ t.Plus _ n (λ z. cc) (keyword_or _ t.Dollar _ n (λ z. cc) (keyword_or _ t.Semicolon _ n (λ z. cc) (no_option n)))))))))))
+no_sign b u i e =
+    no_value _ t.Open _ u i (λ z. z)
+    (no_value _ t.Close _ u i (λ z. z)
+    (no_value _ t.LeftBrace _ u i (λ z. z) (no_value _ t.RightBrace _ u i (λ z. z) (no_value _ t.Colon _ u i (λ z. z) (no_value _ t.Comma _ u i (λ z. z) (no_value _ t.Dot _ u i (λ z. z) (no_value _ t.Equals _ u i (λ z. z) (no_value _ t.Plus _ u i (λ z. z) (no_value _ t.Dollar _ u i (λ z. z) (no_value _ t.Semicolon _ u i (λ z. z) (none_is u)))))))))))
     e
 
 no_int : (o : Option ℤ) (n : List ℕ) → as_int o ≡ Some (t.Name n) → ⊥
@@ -161,14 +114,14 @@ no_int (Some i) n e = cc
 
 same_word : (w n : List ℕ) (o : Option Token) → keyword w ≡ o → Some (or_name w o) ≡ Some (t.Name n) → w ≡ n
 same_word w n None e f = cc
-same_word w n (Some y) e f = absurd (no_keyword w n (e ∙ f))
+same_word w n (Some y) e f = absurd (no_keyword w (t.Name n) tt (e ∙ f))
 
 word_of : (v : Lexeme) (w n : List ℕ) → Writes v w → meaning v ≡ Some (t.Name n) → Writes (x.word n) n × (meaning (x.word n) ≡ Some (t.Name n))
 word_of _ _ n (x.a_word b bs e p) m = let i : b ∷ bs ≡ n = same_word (b ∷ bs) n (keyword (b ∷ bs)) refl m in subst (λ (z : List ℕ). Writes (x.word z) z × (meaning (x.word z) ≡ Some (t.Name n))) i (x.a_word b bs e p, m)
 word_of _ _ n (x.plus ds e) m = absurd (no_int (number_of false ds) n m)
 word_of _ _ n (x.minus b ds c e) m = absurd (no_int (number_of true ds) n m)
 word_of _ _ n (x.a_text r v w c e) m = absurd cc
-word_of _ _ n (x.a_sign b e) m = absurd (no_sign b n m)
+word_of _ _ n (x.a_sign b e) m = absurd (no_sign b (t.Name n) tt m)
 
 pub name_reads : (n : List ℕ) → IsToken (t.Name n) → Reads n (t.Name n ∷ [])
 name_reads n f = let w = word_of f.lexeme f.bytes n f.written f.is in token_reads (x.word n) (t.Name n) n w.0 w.1
@@ -219,13 +172,6 @@ digit_passes : (ds : List ℕ) → AllDigits 10 ds → Passes is_digit ds
 digit_passes [] h = tt
 digit_passes (b ∷ bs) h = (is_digit_in b (digit_from_value b h.0), digit_passes bs h.1)
 
-other_or : (b : Bool) (y : Token) (o : Option Token) (u : Token) → (Some y ≡ Some u → ⊥) → (o ≡ Some u → ⊥) → cond b (Some y) o ≡ Some u → ⊥
-other_or true y o u f g e = f e
-other_or false y o u f g e = g e
-
-no_int_none : (i : ℤ) → None ≡ Some (t.Int i) → ⊥
-no_int_none i e = cc
-
 no_text_int : (v : List ℕ) (i : ℤ) → Some (t.Text v) ≡ Some (t.Int i) → ⊥
 no_text_int v i e = cc
 
@@ -251,28 +197,12 @@ minus_value n lt =
     let k : nat_lt (2 ^ 63) (suc n) ≡ false = grind (arith, nat_tests) in
     ap (λ (z : ℕ). cond (nat_lt (2 ^ 63) z) None (Some (neg_ℤ (pos z)))) v ∙ ap (λ (z : Bool). cond z None (Some (neg_ℤ (pos (suc n))))) k
 
-no_keyword_int : (w : List ℕ) (i : ℤ) → keyword w ≡ Some (t.Int i) → ⊥
-unfolding keyword
-no_keyword_int w i e =
-    other_or _ t.Create _ (t.Int i) (λ z. cc)
-    (other_or _ t.Match _ (t.Int i) (λ z. cc)
-    (other_or _ t.Merge _ (t.Int i) (λ z. cc) (other_or _ t.Set _ (t.Int i) (λ z. cc) (other_or _ t.Delete _ (t.Int i) (λ z. cc) (other_or _ t.Return _ (t.Int i) (λ z. cc) (other_or _ t.As _ (t.Int i) (λ z. cc) (other_or _ t.True _ (t.Int i) (λ z. cc) (other_or _ t.False _ (t.Int i) (λ z. cc) (other_or _ t.Null _ (t.Int i) (λ z. cc) (no_int_none i))))))))))
-    e
-
-no_sign_int : (b : ℕ) (i : ℤ) → sign_of b ≡ Some (t.Int i) → ⊥
-unfolding sign_of
-no_sign_int b i e =
-    other_or _ t.Open _ (t.Int i) (λ z. cc)
-    (other_or _ t.Close _ (t.Int i) (λ z. cc)
-    (other_or _ t.LeftBrace _ (t.Int i) (λ z. cc) (other_or _ t.RightBrace _ (t.Int i) (λ z. cc) (other_or _ t.Colon _ (t.Int i) (λ z. cc) (other_or _ t.Comma _ (t.Int i) (λ z. cc) (other_or _ t.Dot _ (t.Int i) (λ z. cc) (other_or _ t.Equals _ (t.Int i) (λ z. cc) (other_or _ t.Plus _ (t.Int i) (λ z. cc) (other_or _ t.Dollar _ (t.Int i) (λ z. cc) (other_or _ t.Semicolon _ (t.Int i) (λ z. cc) (no_int_none i)))))))))))
-    e
-
 word_int : (w : List ℕ) (i : ℤ) (o : Option Token) → keyword w ≡ o → Some (or_name w o) ≡ Some (t.Int i) → ⊥
 word_int w i None e f = cc
-word_int w i (Some y) e f = no_keyword_int w i (e ∙ f)
+word_int w i (Some y) e f = no_keyword w (t.Int i) tt (e ∙ f)
 
 int_is : (i : ℤ) (o : Option ℤ) → as_int o ≡ Some (t.Int i) → Some i ≡ o
-int_is i None e = absurd (let g : None ≡ Some (t.Int i) = e in no_int_none i g)
+int_is i None e = absurd (none_is (t.Int i) e)
 int_is i (Some j) e = let g : i ≡ j = cc in ap (λ (z : ℤ). Some z) g
 
 int_fits : (v : Lexeme) (w : List ℕ) (i : ℤ) → Writes v w → meaning v ≡ Some (t.Int i) → SFits w64 i
@@ -280,7 +210,7 @@ int_fits _ _ i (x.a_word b bs e p) m = absurd (word_int (b ∷ bs) i (keyword (b
 int_fits _ _ i (x.plus ds e) m = number_fits false ds i (int_is i (number_of false ds) m)
 int_fits _ _ i (x.minus b ds c e) m = number_fits true ds i (int_is i (number_of true ds) m)
 int_fits _ _ i (x.a_text r v w c e) m = absurd (no_text_int v i m)
-int_fits _ _ i (x.a_sign b e) m = absurd (no_sign_int b i m)
+int_fits _ _ i (x.a_sign b e) m = absurd (no_sign b (t.Int i) tt m)
 
 minus_class : class 45 ≡ q.Minus
 unfolding class

@@ -1,4 +1,5 @@
 pub mod Lexemes
+pub mod Names
 pub mod Small
 pub mod Runs
 pub mod Tokens_read
@@ -13,6 +14,8 @@ pub mod Sources
 pub mod Continue
 pub mod Marked
 pub mod Answered
+pub mod Exact
+pub mod Room
 pub mod Printed
 pub mod Glue
 pub mod Reparse

@@ -26,7 +26,7 @@ between_more from end to x y e f =
     let d : between end to ≡ y = ap (λ (z : List ℕ). between z to) f ∙ between_is y to in
     b ∙ sym (ap (λ (z : List ℕ). z ++ between end to) c ∙ ap (λ (z : List ℕ). x ++ z) d)
 
-behind_more : (to : List ℕ) (ps : List Placed) (q : Placed) → behind to (ps ++ (q ∷ [])) ≡ q.to
+pub behind_more : (to : List ℕ) (ps : List Placed) (q : Placed) → behind to (ps ++ (q ∷ [])) ≡ q.to
 behind_more to [] q = refl
 behind_more to (p ∷ ps) q = behind_more p.to ps q
 
@@ -35,7 +35,7 @@ abbrev pub last_what : Placed → List Placed → Token
 last_what p [] = p.what
 last_what p (q ∷ ps) = last_what q ps
 
-alias_more : (p : Placed) (ps : List Placed) (q : Placed) → alias_of ((p ∷ ps) ++ (q ∷ [])) ≡ name_if (last_what p ps) q.what
+pub alias_more : (p : Placed) (ps : List Placed) (q : Placed) → alias_of ((p ∷ ps) ++ (q ∷ [])) ≡ name_if (last_what p ps) q.what
 alias_more p [] q = refl
 alias_more p (r ∷ []) q = refl
 alias_more p (r ∷ u ∷ ps) q = alias_more r (u ∷ ps) q

@@ -43,9 +43,10 @@ token_begins bytes t rest e = token_is bytes t rest (lexeme_at bytes) refl e
 pub none_begins : (bytes : List ℕ) → token_at bytes ≡ None → (t : Token) (rest : List ℕ) → Begins bytes t rest → ⊥
 none_begins bytes e t rest b = no_pair (t, rest) (sym e ∙ begins_is bytes t rest b)
 
-nothing : token_at [] ≡ None
+pub nothing : (bytes : List ℕ) → bytes ≡ [] → token_at bytes ≡ None
 unfolding token_at lexeme_at
-nothing = refl
+nothing [] e = refl
+nothing (b ∷ bs) e = absurd cc
 
 -- ---- lists of tokens
 
@@ -60,14 +61,14 @@ pub record Left (ps : List Placed) (qs : List Placed) (end whole : List ℕ) : T
   pub parts : qs ≡ ps ++ left
   pub tokens : Tokens end left whole
 
-same_token : (bytes : List ℕ) (t u : Token) (rest left : List ℕ) → Begins bytes t rest → Begins bytes u left → (t ≡ u) × (rest ≡ left)
+pub same_token : (bytes : List ℕ) (t u : Token) (rest left : List ℕ) → Begins bytes t rest → Begins bytes u left → (t ≡ u) × (rest ≡ left)
 same_token bytes t u rest left b c =
     let p = pair_is (t, rest) (u, left) (sym (begins_is bytes t rest b) ∙ begins_is bytes u left c) in
     (ap (λ (z : Token × List ℕ). z.0) p, ap (λ (z : Token × List ℕ). z.1) p)
 
-both_more : (bytes rest end : List ℕ) (t : Token) (others qs : List Placed) (whole : List ℕ) → ((qs : List Placed) (whole : List ℕ) → Tokens rest qs whole → past_blanks whole ≡ [] → Left others qs end whole) → Begins (past_blanks bytes) t rest → Tokens bytes qs whole → past_blanks whole ≡ []
+both_more : (bytes rest end : List ℕ) (t : Token) (others qs : List Placed) (whole : List ℕ) → ((qs : List Placed) (whole : List ℕ) → Tokens rest qs whole → token_at (past_blanks whole) ≡ None → Left others qs end whole) → Begins (past_blanks bytes) t rest → Tokens bytes qs whole → token_at (past_blanks whole) ≡ None
     → Left (record { what = t; from = past_blanks bytes; to = rest } ∷ others) qs end whole
-both_more _ rest end t others _ _ h b (k.stop bytes) e = absurd (none_begins (past_blanks bytes) (ap token_at e ∙ nothing) t rest b)
+both_more _ rest end t others _ _ h b (k.stop bytes) e = absurd (none_begins (past_blanks bytes) e t rest b)
 both_more _ rest end t others _ _ h b (k.more bytes left whole u qs c p) e =
     let i = same_token (past_blanks bytes) t u rest left b c in
     let w = h qs whole (subst (λ (z : List ℕ). Tokens z qs whole) (sym i.1) p) e in
@@ -77,8 +78,8 @@ both_more _ rest end t others _ _ h b (k.more bytes left whole u qs c p) e =
       tokens = w.tokens;
     }
 
--- a list that reaches the end goes on from each list of the same bytes
-pub goes_further : (bytes : List ℕ) (ps : List Placed) (end : List ℕ) (qs : List Placed) (whole : List ℕ) → Tokens bytes ps end → Tokens bytes qs whole → past_blanks whole ≡ [] → Left ps qs end whole
+-- a list behind which no token begins goes on from each list of the same bytes
+pub goes_further : (bytes : List ℕ) (ps : List Placed) (end : List ℕ) (qs : List Placed) (whole : List ℕ) → Tokens bytes ps end → Tokens bytes qs whole → token_at (past_blanks whole) ≡ None → Left ps qs end whole
 goes_further _ _ _ qs whole (k.stop bytes) o e = record { left = qs; parts = refl; tokens = o }
 goes_further _ _ _ qs whole (k.more bytes rest end t others b o) p e = both_more bytes rest end t others qs whole (λ us w q f. goes_further rest others end us w o q f) b p e
 

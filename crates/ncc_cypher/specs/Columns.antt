@@ -1,7 +1,9 @@
 -- The names of a statement's columns.
-use Rattle.std.specs.Prelude.{ℕ, ◌-◌, List, [], ◌∷◌, ◌++◌, take, length, map, Option, Some, None}
+use Rattle.std.specs.Prelude.{◌≡◌, ℕ, ◌+◌, ◌≤◌, ◌-◌, List, [], ◌∷◌, ◌++◌, take, length, map, Option, Some, None}
+use Rattle.ncc_pack.specs.declared.value.Value.TheVariants as v
 use Rattle.ncc_cypher.specs.declared.token.Token.{Token}
 use Rattle.ncc_cypher.specs.declared.token.Token.TheVariants as t
+use Rattle.ncc_cypher.specs.declared.tree.Statement.{Statement}
 use Rattle.ncc_cypher.specs.Token.{Placed}
 use Rattle.ncc_cypher.specs.Grammar.{Name}
 
@@ -60,3 +62,14 @@ at_return a b _ = b
 unfoldable pub columns : List Placed → List Name
 columns [] = []
 columns (p ∷ ps) = at_return (map column (parts [] ps)) (columns ps) p.what
+
+-- the bytes of these names, and one more for each
+abbrev pub room : List Name → ℕ
+room [] = 0
+room (n ∷ ns) = 1 + length n + room ns
+
+-- the columns have no more bytes than the source, even with one more for each
+pub record Within (source : List ℕ) (statement : Statement) : Type 0 where
+  pub names : List Name
+  pub are : statement.columns ≡ map v.Text names
+  pub room : room names ≤ length source

@@ -11,5 +11,7 @@ pub mod Columns
 pub mod Spelled
 pub mod Marks
 pub mod Outcome
+pub mod Parsed
 pub mod Writing
 pub mod Print
+pub mod Printer

@@ -1,105 +1,132 @@
--- How a statement is printed: keywords in capitals, no AS, no semicolon and no braces without a pair. One space stands
--- between two tokens, but none on either side of `.`, `(`, `)`, `{`, `}` and the `:` of a node, none after `$`, and none
--- before `,` and `:`. Yet one stands behind the `:` of a pair, behind a `)` that is not the last token, and before `(`
--- and `{`, but not behind `count`. A text stands in `'`, with escapes for `\` and `'` alone.
-use Rattle.std.specs.Prelude.{ℕ, true, false, List, [], ◌∷◌, ◌++◌, codes, Option, Some, None, ◌==◌, ◌||◌, if◌then◌else◌}
+-- How a statement is printed: the tokens of its plain spelling, and one rule for the space between two neighbours. In the
+-- plain spelling stand no AS, no semicolon and no braces without a pair, and `count` in small letters.
+use Rattle.std.specs.Prelude.{ℕ, Bool, true, false, List, [], ◌∷◌, ◌++◌, map, None, codes, ◌==◌, ◌||◌, if◌then◌else◌}
 use Rattle.std.specs.Fmt.{signed_decimal}
-use Rattle.ncc_cypher.specs.declared.tree.Expr.{Expr}
-use Rattle.ncc_cypher.specs.declared.tree.Term.{Term}
-use Rattle.ncc_cypher.specs.declared.tree.Term.TheVariants as m
+use Rattle.ncc_cypher.specs.declared.token.Token.{Token}
+use Rattle.ncc_cypher.specs.declared.token.Token.TheVariants as t
+use Rattle.ncc_cypher.specs.declared.printing.Shape.{Shape}
+use Rattle.ncc_cypher.specs.declared.printing.Shape.TheVariants.{Start, Word, Name, Open, Brace, Close, Colon, Dot, Dollar}
 use Rattle.ncc_cypher.specs.declared.tree.Pair.{Pair}
 use Rattle.ncc_cypher.specs.declared.tree.Item.{Item}
-use Rattle.ncc_cypher.specs.declared.tree.Item.TheVariants as i
 use Rattle.ncc_cypher.specs.declared.tree.Head.{Head}
 use Rattle.ncc_cypher.specs.declared.tree.Head.TheVariants as h
-use Rattle.ncc_cypher.specs.declared.tree.Change.{Change}
-use Rattle.ncc_cypher.specs.declared.tree.Change.TheVariants as c
 use Rattle.ncc_cypher.specs.declared.tree.Tail.{Tail}
 use Rattle.ncc_cypher.specs.declared.tree.Tail.TheVariants as l
 use Rattle.ncc_cypher.specs.declared.tree.Statement.{Statement}
-use Rattle.ncc_cypher.specs.Grammar.{Name}
+use Rattle.ncc_cypher.specs.Grammar.{Choice, Named, tokens}
+
+-- ---- the plain spelling
+
+abbrev pub has_pairs : List Pair → Bool
+has_pairs [] = false
+has_pairs (p ∷ ps) = true
+
+abbrev pub plain_braces : Head → Bool
+plain_braces (h.Create a ps) = has_pairs ps
+plain_braces _ = false
+
+abbrev pub plain_named : List Item → List Named
+plain_named xs = map (λ x. record { item = x; name = None }) xs
+
+abbrev pub tail_named : Tail → List Named
+tail_named (l.Items xs) = plain_named xs
+tail_named _ = []
+
+abbrev pub plain : Head → Tail → Choice
+plain x y = record { braces = plain_braces x; named = tail_named y; word = codes "count"; alias = None; semicolon = false }
+
+-- ---- tokens
 
 -- a text's bytes between its quotes
 unfoldable pub escaped : List ℕ → List ℕ
 escaped [] = []
 escaped (b ∷ bs) = if b == 39 || b == 92 then 92 ∷ b ∷ escaped bs else b ∷ escaped bs
 
+-- in `'`, with escapes for `\` and `'` alone
 abbrev pub quoted : List ℕ → List ℕ
 quoted bs = 39 ∷ (escaped bs ++ (39 ∷ []))
 
--- the bound name, or nothing
-abbrev pub name : Option Name → List ℕ
-name None = []
-name (Some n) = n
+-- how a token is written: a keyword in capitals
+abbrev pub written : Token → List ℕ
+written t.Create = codes "CREATE"
+written t.Match = codes "MATCH"
+written t.Merge = codes "MERGE"
+written t.Set = codes "SET"
+written t.Delete = codes "DELETE"
+written t.Return = codes "RETURN"
+written t.As = codes "AS"
+written t.True = codes "TRUE"
+written t.False = codes "FALSE"
+written t.Null = codes "NULL"
+written (t.Int i) = signed_decimal i
+written (t.Text b) = quoted b
+written (t.Name n) = n
+written t.Open = codes "("
+written t.Close = codes ")"
+written t.LeftBrace = codes "{"
+written t.RightBrace = codes "}"
+written t.Colon = codes ":"
+written t.Comma = codes ","
+written t.Dot = codes "."
+written t.Equals = codes "="
+written t.Plus = codes "+"
+written t.Dollar = codes "$"
+written t.Semicolon = codes ";"
 
-abbrev pub term : Option Name → Term → List ℕ
-term n m.Null = codes "NULL"
-term n (m.Bool true) = codes "TRUE"
-term n (m.Bool false) = codes "FALSE"
-term n (m.Int k) = signed_decimal k
-term n (m.Text b) = quoted b
-term n (m.Param p) = codes "$" ++ p
-term n (m.Prop k) = name n ++ (codes "." ++ k)
+-- ---- the space between two neighbours
 
-abbrev pub further : {A : Type 0} → (A → List ℕ) → List ℕ → List A → List ℕ
-further f sep [] = []
-further f sep (x ∷ xs) = sep ++ (f x ++ further f sep xs)
+-- how a token stands beside its neighbours
+abbrev pub shape : Token → Shape
+shape (t.Name n) = Name
+shape t.Open = Open
+shape t.LeftBrace = Brace
+shape t.Close = Close
+shape t.RightBrace = Close
+shape t.Comma = Close
+shape t.Semicolon = Close
+shape t.Colon = Colon
+shape t.Dot = Dot
+shape t.Dollar = Dollar
+shape _ = Word
 
--- with a separator between two
-abbrev pub parted : {A : Type 0} → (A → List ℕ) → List ℕ → List A → List ℕ
-parted f sep [] = []
-parted f sep (x ∷ xs) = f x ++ further f sep xs
+-- one stands before all but `)`, `}`, `,`, `;`, `:` and `.`
+abbrev pub space_before : Shape → Bool
+space_before Close = false
+space_before Colon = false
+space_before Dot = false
+space_before _ = true
 
-abbrev pub sum : Option Name → Expr → List ℕ
-sum n e = parted (term n) (codes " + ") e.terms
+-- behind a name, which may be `count`, none stands before `(`
+abbrev pub space_behind_name : Shape → Bool
+space_behind_name Open = false
+space_behind_name next = space_before next
 
-abbrev pub pair : Pair → List ℕ
-pair p = p.key ++ (codes ": " ++ sum None p.value)
+-- behind `:` none stands before a name: that is a label, since no value of a pair begins with one
+abbrev pub space_behind_colon : Shape → Bool
+space_behind_colon Name = false
+space_behind_colon next = space_before next
 
-abbrev pub change : Option Name → Pair → List ℕ
-change n p = name n ++ (codes "." ++ (p.key ++ (codes " = " ++ sum n p.value)))
+-- behind `(`, `{`, `.` and `$` one stands before `{` alone
+abbrev pub space_behind_sign : Shape → Bool
+space_behind_sign Brace = true
+space_behind_sign next = false
 
-abbrev pub item : Option Name → Item → List ℕ
-item n i.Whole = name n
-item n (i.Sum e) = sum n e
+-- whether one space stands between two neighbours
+abbrev pub space : Shape → Shape → Bool
+space Start next = false
+space Word next = space_before next
+space Close next = space_before next
+space Name next = space_behind_name next
+space Colon next = space_behind_colon next
+space _ next = space_behind_sign next
 
-abbrev pub label : Option Name → List ℕ
-label None = []
-label (Some a) = codes ":" ++ a
+abbrev pub gap : Shape → Shape → List ℕ
+gap last next = if space last next then codes " " else []
 
--- no braces without a pair
-abbrev pub braces : List Pair → List ℕ
-braces [] = []
-braces (p ∷ ps) = codes " {" ++ (parted pair (codes ", ") (p ∷ ps) ++ codes "}")
-
-abbrev pub pattern : List ℕ → Option Name → Option Name → List Pair → List ℕ
-pattern verb n a ps = verb ++ (name n ++ (label a ++ (braces ps ++ codes ")")))
-
-abbrev pub one : Option Pair → List Pair
-one None = []
-one (Some p) = p ∷ []
-
-abbrev pub head : Option Name → Head → List ℕ
-head n h.Alone = []
-head n (h.Create a ps) = pattern (codes "CREATE (") n (Some a) ps
-head n (h.Find a p) = pattern (codes "MATCH (") n a (one p)
-head n (h.Merge a p) = pattern (codes "MERGE (") n (Some a) (p ∷ [])
-
-abbrev pub changes : Option Name → Change → List ℕ
-changes n c.Keep = []
-changes n (c.Set ps) = codes " SET " ++ parted (change n) (codes ", ") ps
-changes n c.Delete = codes " DELETE " ++ name n
-
-abbrev pub tail : Option Name → Tail → List ℕ
-tail n l.Nothing = []
-tail n l.Count = codes "RETURN count(" ++ (name n ++ codes ")")
-tail n (l.Items xs) = codes "RETURN " ++ parted (item n) (codes ", ") xs
-
--- a space before RETURN, unless it stands alone
-abbrev pub space : Head → Tail → List ℕ
-space h.Alone x = []
-space y l.Nothing = []
-space y x = codes " "
+-- the text of tokens behind one that stands so
+abbrev pub text : Shape → List Token → List ℕ
+text last [] = []
+text last (x ∷ xs) = gap last (shape x) ++ (written x ++ text (shape x) xs)
 
 abbrev pub printed : Statement → List ℕ
-printed s = head s.name s.head ++ (changes s.name s.change ++ (space s.head s.tail ++ tail s.name s.tail))
+printed s = text Start (tokens (plain s.head s.tail) s)

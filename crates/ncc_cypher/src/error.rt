@@ -16,12 +16,12 @@ pub enum SyntaxKind {
 }
 
 /// Why a source could not be parsed.
-#[derive(Clone, Copy, Debug, Error)]
+#[derive(Clone, Copy, Debug, PartialEq, Eq, Error)]
 pub enum ParseError {
     /// The source is no statement. `at` is the byte of the first token that goes wrong, or the source's length.
     #[error("no statement from byte {at} on")]
     Syntax { at: u64, kind: SyntaxKind },
-    /// Want of memory.
+    /// Memory ran out.
     #[error("out of memory")]
     Memory,
 }

@@ -7,6 +7,7 @@ mod count;
 mod draft;
 mod error;
 mod head;
+mod laws;
 mod lex;
 mod marks;
 mod number;
@@ -25,6 +26,7 @@ mod word;
 mod writes;
 
 pub use error::{ParseError, SyntaxKind};
+pub use laws::every_source_is_one;
 pub use printing::print;
 pub use reading::parse;
 pub use tree::{Change, Expr, Head, Item, Items, Pair, Pairs, Statement, Tail, Term, Terms};

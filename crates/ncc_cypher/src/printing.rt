@@ -1,9 +1,15 @@
-//! Printing statements.
+//! Printing statements: the grammar's tokens, and one rule for the space between two neighbours.
+#![tactic(auto, using(crate::proofs::Printed::puts_then))]
 
-ghost use Rattle.std.specs.Prelude.{◌≡◌, ◌++◌, ◌∷◌, [], IfOk, OnOk, codes, Some, List, ℕ};
+ghost use Rattle.std.specs.Prelude.{◌≡◌, ◌++◌, ◌∷◌, [], true, IfOk, OnOk, codes, Some, List, ℕ};
 ghost use Rattle.std.specs.Fmt.{signed_decimal};
+ghost use Rattle.ncc_cypher.specs.declared.token.Token.TheVariants as t;
+ghost use Rattle.ncc_cypher.specs.declared.tree.Head.TheVariants as h;
+ghost use Rattle.ncc_cypher.specs.declared.printing.Shape.TheVariants as k;
+ghost use Rattle.ncc_cypher.specs.Grammar as g;
 ghost use Rattle.ncc_cypher.specs.Print as p;
 ghost use Rattle.ncc_cypher.specs.Print.{printed};
+ghost use Rattle.ncc_cypher.specs.Printer.{add, puts};
 ghost use Rattle.ncc_cypher.specs.Spelled.{Spelled, Again};
 
 use crate::slice::{before, past, plain_split};
@@ -11,50 +17,60 @@ use crate::tree::{Change, Expr, Head, Item, Pair, Statement, Tail, Term};
 use ncc_pack::{Memory, Text};
 use std::alloc::Global;
 
-/// Further ones, each with a comma before it.
-#[tactic(auto, using(crate::proofs::Printed::further_more))]
-fn put_further_items(
-    alloc: Global,
-    out: &mut Text,
-    name: &Option<Text>,
-    items: &[Item],
-) -> Result<(), Memory>
-    ensures { OnOk result (out.new ≡ out.old ++ p.further (p.item name.now) (codes ", ") items.now) }
-{
-    for item in items {
-        out.push_str(", ")?;
-        put_item(alloc, out, name, item)?;
-    }
-    Ok(())
+/// How a token stands beside its neighbours.
+#[derive(Clone, Copy)]
+enum Shape {
+    /// No token stands there yet.
+    Start,
+    /// A keyword, a value, `=` or `+`.
+    Word,
+    Name,
+    /// `(`.
+    Open,
+    /// `{`.
+    Brace,
+    /// `)`, `}` or a comma.
+    Close,
+    Colon,
+    Dot,
+    Dollar,
 }
 
-/// Further ones, each with a comma before it.
-#[tactic(auto, using(crate::proofs::Printed::further_more))]
-fn put_further_changes(
-    alloc: Global,
-    out: &mut Text,
-    name: &Option<Text>,
-    pairs: &[Pair],
-) -> Result<(), Memory>
-    ensures { OnOk result (out.new ≡ out.old ++ p.further (p.change name.now) (codes ", ") pairs.now) }
+fn space_before(next: Shape) -> bool
+    ensures { result ≡ p.space_before next }
 {
-    for pair in pairs {
-        out.push_str(", ")?;
-        put_change(alloc, out, name, pair)?;
+    match next {
+        Shape::Close | Shape::Colon | Shape::Dot => false,
+        _ => true,
     }
-    Ok(())
 }
 
-/// Further ones, each with a comma before it.
-#[tactic(auto, using(crate::proofs::Printed::further_more))]
-fn put_further_pairs(alloc: Global, out: &mut Text, pairs: &[Pair]) -> Result<(), Memory>
-    ensures { OnOk result (out.new ≡ out.old ++ p.further p.pair (codes ", ") pairs.now) }
+/// Whether one space stands between two neighbours.
+fn space(last: Shape, next: Shape) -> bool
+    ensures { result ≡ p.space last next }
 {
-    for pair in pairs {
-        out.push_str(", ")?;
-        put_pair(alloc, out, pair)?;
+    match last {
+        Shape::Start => false,
+        Shape::Word | Shape::Close => space_before(next),
+        Shape::Name => match next {
+            Shape::Open => false,
+            _ => space_before(next),
+        },
+        Shape::Colon => match next {
+            Shape::Name => false,
+            _ => space_before(next),
+        },
+        _ => match next {
+            Shape::Brace => true,
+            _ => false,
+        },
     }
-    Ok(())
+}
+
+fn gap(last: Shape, next: Shape) -> &'static str
+    ensures { result.now ≡ p.gap last next }
+{
+    if space(last, next) { " " } else { "" }
 }
 
 /// A text with `\` before each `\` and `'`.
@@ -75,285 +91,307 @@ fn put_escaped(out: &mut Text, text: &str) -> Result<(), Memory>
     }
 }
 
-/// A text in `'`, with `\` and `'` escaped.
-fn put_quoted(out: &mut Text, text: &str) -> Result<(), Memory>
-    ensures { OnOk result (out.new ≡ out.old ++ p.quoted text.now) }
-{
-    out.push_str("'")?;
-    put_escaped(out, text)?;
-    out.push_str("'")
-}
-
-/// An integer in decimal digits.
-fn put_int(alloc: Global, out: &mut Text, number: i64) -> Result<(), Memory>
-    ensures { OnOk result (out.new ≡ out.old ++ signed_decimal number) }
-{
-    let digits = format!(in alloc; "{number}")?;
-    out.push_str(digits.as_str())
-}
-
-/// The bound name, where there is one.
-fn put_name(out: &mut Text, name: &Option<Text>) -> Result<(), Memory>
-    ensures { OnOk result (out.new ≡ out.old ++ p.name name.now) }
-{
-    match name {
-        None => Ok(()),
-        Some(n) => out.push_str(n.as_str()),
-    }
-}
-
-fn put_term(alloc: Global, out: &mut Text, name: &Option<Text>, term: &Term) -> Result<(), Memory>
-    ensures { OnOk result (out.new ≡ out.old ++ p.term name.now term.now) }
-{
-    match term {
-        Term::Null => out.push_str("NULL"),
-        Term::Bool(true) => out.push_str("TRUE"),
-        Term::Bool(false) => out.push_str("FALSE"),
-        Term::Int(n) => put_int(alloc, out, *n),
-        Term::Text(t) => put_quoted(out, t.as_str()),
-        Term::Param(parameter) => {
-            out.push_str("$")?;
-            out.push_str(parameter.as_str())
-        }
-        Term::Prop(key) => {
-            put_name(out, name)?;
-            out.push_str(".")?;
-            out.push_str(key.as_str())
-        }
-    }
-}
-
-/// Further terms, each with `+` before it.
-#[tactic(auto, using(crate::proofs::Printed::further_more))]
-fn put_terms(
+/// What is printed so far, and the shape of its last token.
+#[derive(Drop)]
+struct Printer {
     alloc: Global,
-    out: &mut Text,
-    name: &Option<Text>,
-    terms: &[Term],
-) -> Result<(), Memory>
-    ensures { OnOk result (out.new ≡ out.old ++ p.further (p.term name.now) (codes " + ") terms.now) }
-{
-    for term in terms {
-        out.push_str(" + ")?;
-        put_term(alloc, out, name, term)?;
-    }
-    Ok(())
+    out: Text,
+    last: Shape,
 }
 
-fn put_sum(alloc: Global, out: &mut Text, name: &Option<Text>, sum: &Expr) -> Result<(), Memory>
-    ensures { OnOk result (out.new ≡ out.old ++ p.sum name.now sum.now) }
-{
-    match sum.terms.as_slice() {
-        [] => Ok(()),
-        [first, others @ ..] => {
-            put_term(alloc, out, name, first)?;
-            put_terms(alloc, out, name, others)
+impl Printer {
+    /// Appends a token, with a space before it where one stands.
+    #[tactic(auto, unfolding(crate::specs::Printer::add))]
+    fn put(&mut self, next: Shape, word: &str) -> Result<(), Memory>
+        ensures { OnOk result (self.new ≡ add self.old next word.now) }
+    {
+        self.out.push_str(gap(self.last, next))?;
+        self.last = next;
+        self.out.push_str(word)
+    }
+
+    fn put_name(&mut self, name: &Text) -> Result<(), Memory>
+        ensures { OnOk result (self.new ≡ puts self.old (g.given (Some name.now))) }
+    {
+        self.put(Shape::Name, name.as_str())
+    }
+
+    /// An integer in decimal digits.
+    fn put_int(&mut self, number: i64) -> Result<(), Memory>
+        ensures { OnOk result (self.new ≡ add self.old k.Word (signed_decimal number)) }
+    {
+        let digits = format!(in self.alloc; "{number}")?;
+        self.put(Shape::Word, digits.as_str())
+    }
+
+    /// A text in `'`, with `\` and `'` escaped.
+    #[tactic(auto, unfolding(crate::specs::Printer::add))]
+    fn put_quoted(&mut self, text: &str) -> Result<(), Memory>
+        ensures { OnOk result (self.new ≡ add self.old k.Word (p.quoted text.now)) }
+    {
+        self.put(Shape::Word, "'")?;
+        put_escaped(&mut self.out, text)?;
+        self.out.push_str("'")
+    }
+
+    /// The bound name, where there is one.
+    fn put_bound(&mut self, name: &Option<Text>) -> Result<(), Memory>
+        ensures { OnOk result (self.new ≡ puts self.old (g.given name.now)) }
+    {
+        match name {
+            None => Ok(()),
+            Some(name) => self.put_name(name),
         }
     }
-}
 
-fn put_pair(alloc: Global, out: &mut Text, pair: &Pair) -> Result<(), Memory>
-    ensures { OnOk result (out.new ≡ out.old ++ p.pair pair.now) }
-{
-    out.push_str(pair.key.as_str())?;
-    out.push_str(": ")?;
-    put_sum(alloc, out, &None, &pair.value)
-}
-
-/// The changes of SET.
-fn put_change(alloc: Global, out: &mut Text, name: &Option<Text>, pair: &Pair) -> Result<(), Memory>
-    ensures { OnOk result (out.new ≡ out.old ++ p.change name.now pair.now) }
-{
-    put_name(out, name)?;
-    out.push_str(".")?;
-    out.push_str(pair.key.as_str())?;
-    out.push_str(" = ")?;
-    put_sum(alloc, out, name, &pair.value)
-}
-
-/// Pairs with a comma between two.
-fn put_pairs(alloc: Global, out: &mut Text, pairs: &[Pair]) -> Result<(), Memory>
-    ensures { OnOk result (out.new ≡ out.old ++ p.parted p.pair (codes ", ") pairs.now) }
-{
-    match pairs {
-        [] => Ok(()),
-        [first, others @ ..] => {
-            put_pair(alloc, out, first)?;
-            put_further_pairs(alloc, out, others)
-        }
-    }
-}
-
-/// Changes with a comma between two.
-fn put_changes(
-    alloc: Global,
-    out: &mut Text,
-    name: &Option<Text>,
-    pairs: &[Pair],
-) -> Result<(), Memory>
-    ensures { OnOk result (out.new ≡ out.old ++ p.parted (p.change name.now) (codes ", ") pairs.now) }
-{
-    match pairs {
-        [] => Ok(()),
-        [first, others @ ..] => {
-            put_change(alloc, out, name, first)?;
-            put_further_changes(alloc, out, name, others)
-        }
-    }
-}
-
-fn put_item(alloc: Global, out: &mut Text, name: &Option<Text>, item: &Item) -> Result<(), Memory>
-    ensures { OnOk result (out.new ≡ out.old ++ p.item name.now item.now) }
-{
-    match item {
-        Item::Whole => put_name(out, name),
-        Item::Sum(sum) => put_sum(alloc, out, name, sum),
-    }
-}
-
-/// Items with a comma between two.
-fn put_items(
-    alloc: Global,
-    out: &mut Text,
-    name: &Option<Text>,
-    items: &[Item],
-) -> Result<(), Memory>
-    ensures { OnOk result (out.new ≡ out.old ++ p.parted (p.item name.now) (codes ", ") items.now) }
-{
-    match items {
-        [] => Ok(()),
-        [first, others @ ..] => {
-            put_item(alloc, out, name, first)?;
-            put_further_items(alloc, out, name, others)
-        }
-    }
-}
-
-/// The pairs in braces, where there are any.
-fn put_braces(alloc: Global, out: &mut Text, pairs: &[Pair]) -> Result<(), Memory>
-    ensures { OnOk result (out.new ≡ out.old ++ p.braces pairs.now) }
-{
-    if pairs.is_empty() {
-        return Ok(());
-    }
-    out.push_str(" {")?;
-    put_pairs(alloc, out, pairs)?;
-    out.push_str("}")
-}
-
-/// The pair in braces, where there is one.
-fn put_one(alloc: Global, out: &mut Text, pair: &Option<Pair>) -> Result<(), Memory>
-    ensures { OnOk result (out.new ≡ out.old ++ p.braces (p.one pair.now)) }
-{
-    match pair {
-        None => Ok(()),
-        Some(pair) => put_single(alloc, out, pair),
-    }
-}
-
-fn put_single(alloc: Global, out: &mut Text, pair: &Pair) -> Result<(), Memory>
-    ensures { OnOk result (out.new ≡ out.old ++ p.braces (pair.now ∷ [])) }
-{
-    out.push_str(" {")?;
-    put_pair(alloc, out, pair)?;
-    out.push_str("}")
-}
-
-/// The keyword, the name and the label of a head.
-fn put_opening(out: &mut Text, verb: &str, name: &Option<Text>, label: &Text) -> Result<(), Memory>
-    ensures { OnOk result (out.new ≡ out.old ++ (verb.now ++ (p.name name.now ++ p.label (Some label.now)))) }
-{
-    out.push_str(verb)?;
-    put_name(out, name)?;
-    out.push_str(":")?;
-    out.push_str(label.as_str())
-}
-
-fn put_head(alloc: Global, out: &mut Text, name: &Option<Text>, head: &Head) -> Result<(), Memory>
-    ensures { OnOk result (out.new ≡ out.old ++ p.head name.now head.now) }
-{
-    match head {
-        Head::Alone => Ok(()),
-        Head::Create { label, pairs } => {
-            put_opening(out, "CREATE (", name, label)?;
-            put_braces(alloc, out, pairs.as_slice())?;
-            out.push_str(")")
-        }
-        Head::Find { label, pair } => {
-            match label {
-                None => put_bare(out, name)?,
-                Some(label) => put_opening(out, "MATCH (", name, label)?,
+    fn put_term(&mut self, name: &Option<Text>, term: &Term) -> Result<(), Memory>
+        ensures { OnOk result (self.new ≡ puts self.old (g.term name.now term.now)) }
+    {
+        match term {
+            Term::Null => self.put(Shape::Word, "NULL"),
+            Term::Bool(true) => self.put(Shape::Word, "TRUE"),
+            Term::Bool(false) => self.put(Shape::Word, "FALSE"),
+            Term::Int(n) => self.put_int(*n),
+            Term::Text(t) => self.put_quoted(t.as_str()),
+            Term::Param(parameter) => {
+                self.put(Shape::Dollar, "$")?;
+                self.put_name(parameter)
             }
-            put_one(alloc, out, pair)?;
-            out.push_str(")")
-        }
-        Head::Merge { label, pair } => {
-            put_opening(out, "MERGE (", name, label)?;
-            put_single(alloc, out, pair)?;
-            out.push_str(")")
+            Term::Prop(key) => {
+                self.put_bound(name)?;
+                self.put(Shape::Dot, ".")?;
+                self.put_name(key)
+            }
         }
     }
-}
 
-fn put_bare(out: &mut Text, name: &Option<Text>) -> Result<(), Memory>
-    ensures { OnOk result (out.new ≡ out.old ++ (codes "MATCH (" ++ p.name name.now)) }
-{
-    out.push_str("MATCH (")?;
-    put_name(out, name)
-}
-
-fn put_whole_change(
-    alloc: Global,
-    out: &mut Text,
-    name: &Option<Text>,
-    change: &Change,
-) -> Result<(), Memory>
-    ensures { OnOk result (out.new ≡ out.old ++ p.changes name.now change.now) }
-{
-    match change {
-        Change::Keep => Ok(()),
-        Change::Set(pairs) => {
-            out.push_str(" SET ")?;
-            put_changes(alloc, out, name, pairs.as_slice())
+    /// Further terms, each with `+` before it.
+    fn put_further_terms(&mut self, name: &Option<Text>, terms: &[Term]) -> Result<(), Memory>
+        ensures { OnOk result (self.new ≡ puts self.old (g.further (g.term name.now) t.Plus terms.now)) }
+    {
+        for term in terms {
+            self.put(Shape::Word, "+")?;
+            self.put_term(name, term)?;
         }
-        Change::Delete => {
-            out.push_str(" DELETE ")?;
-            put_name(out, name)
+        Ok(())
+    }
+
+    fn put_sum(&mut self, name: &Option<Text>, sum: &Expr) -> Result<(), Memory>
+        ensures { OnOk result (self.new ≡ puts self.old (g.sum name.now sum.now.terms)) }
+    {
+        match sum.terms.as_slice() {
+            [] => Ok(()),
+            [first, others @ ..] => {
+                self.put_term(name, first)?;
+                self.put_further_terms(name, others)
+            }
         }
     }
-}
 
-/// A space before RETURN, unless it stands alone.
-fn put_space(out: &mut Text, head: &Head, tail: &Tail) -> Result<(), Memory>
-    ensures { OnOk result (out.new ≡ out.old ++ p.space head.now tail.now) }
-{
-    match head {
-        Head::Alone => Ok(()),
-        _ => match tail {
+    fn put_pair(&mut self, pair: &Pair) -> Result<(), Memory>
+        ensures { OnOk result (self.new ≡ puts self.old (g.pair pair.now)) }
+    {
+        self.put_name(&pair.key)?;
+        self.put(Shape::Colon, ":")?;
+        self.put_sum(&None, &pair.value)
+    }
+
+    /// Further pairs, each with a comma before it.
+    fn put_further_pairs(&mut self, pairs: &[Pair]) -> Result<(), Memory>
+        ensures { OnOk result (self.new ≡ puts self.old (g.further g.pair t.Comma pairs.now)) }
+    {
+        for pair in pairs {
+            self.put(Shape::Close, ",")?;
+            self.put_pair(pair)?;
+        }
+        Ok(())
+    }
+
+    /// A pair and further ones in braces.
+    fn put_braces(&mut self, first: &Pair, others: &[Pair]) -> Result<(), Memory>
+        ensures { OnOk result (self.new ≡ puts self.old (g.props true (first.now ∷ others.now))) }
+    {
+        self.put(Shape::Brace, "{")?;
+        self.put_pair(first)?;
+        self.put_further_pairs(others)?;
+        self.put(Shape::Close, "}")
+    }
+
+    /// The pairs in braces, where there are any.
+    fn put_pairs(&mut self, pairs: &[Pair]) -> Result<(), Memory>
+        ensures { OnOk result (self.new ≡ puts self.old (g.props (p.has_pairs pairs.now) pairs.now)) }
+    {
+        match pairs {
+            [] => Ok(()),
+            [first, others @ ..] => self.put_braces(first, others),
+        }
+    }
+
+    fn put_label(&mut self, label: &Text) -> Result<(), Memory>
+        ensures { OnOk result (self.new ≡ puts self.old (g.label (Some label.now))) }
+    {
+        self.put(Shape::Colon, ":")?;
+        self.put_name(label)
+    }
+
+    /// The keyword, the parenthesis and the name of a head.
+    fn put_opening(&mut self, verb: &str, name: &Option<Text>) -> Result<(), Memory>
+        ensures { OnOk result (self.new ≡ puts (add self.old k.Word verb.now) (t.Open ∷ g.given name.now)) }
+    {
+        self.put(Shape::Word, verb)?;
+        self.put(Shape::Open, "(")?;
+        self.put_bound(name)
+    }
+
+    /// The opening of MATCH, and its label where there is one.
+    fn put_match(&mut self, name: &Option<Text>, label: &Option<Text>) -> Result<(), Memory>
+        ensures { OnOk result (self.new ≡ puts self.old (g.node t.Match name.now label.now)) }
+    {
+        self.put_opening("MATCH", name)?;
+        match label {
+            None => Ok(()),
+            Some(label) => self.put_label(label),
+        }
+    }
+
+    fn put_head(&mut self, name: &Option<Text>, head: &Head) -> Result<(), Memory>
+        ensures { OnOk result (self.new ≡ puts self.old (g.head (p.plain_braces head.now) name.now head.now)) }
+    {
+        match head {
+            Head::Alone => Ok(()),
+            Head::Create { label, pairs } => {
+                self.put_opening("CREATE", name)?;
+                self.put_label(label)?;
+                self.put_pairs(pairs.as_slice())?;
+                self.put(Shape::Close, ")")
+            }
+            Head::Find { label, pair: None } => {
+                self.put_match(name, label)?;
+                self.put(Shape::Close, ")")
+            }
+            Head::Find {
+                label,
+                pair: Some(pair),
+            } => {
+                self.put_match(name, label)?;
+                self.put_braces(pair, &[])?;
+                self.put(Shape::Close, ")")
+            }
+            Head::Merge { label, pair } => {
+                self.put_opening("MERGE", name)?;
+                self.put_label(label)?;
+                self.put_braces(pair, &[])?;
+                self.put(Shape::Close, ")")
+            }
+        }
+    }
+
+    /// A change of SET.
+    fn put_change(&mut self, name: &Option<Text>, pair: &Pair) -> Result<(), Memory>
+        ensures { OnOk result (self.new ≡ puts self.old (g.change name.now pair.now)) }
+    {
+        self.put_bound(name)?;
+        self.put(Shape::Dot, ".")?;
+        self.put_name(&pair.key)?;
+        self.put(Shape::Word, "=")?;
+        self.put_sum(name, &pair.value)
+    }
+
+    /// Further changes, each with a comma before it.
+    fn put_further_changes(&mut self, name: &Option<Text>, pairs: &[Pair]) -> Result<(), Memory>
+        ensures { OnOk result (self.new ≡ puts self.old (g.further (g.change name.now) t.Comma pairs.now)) }
+    {
+        for pair in pairs {
+            self.put(Shape::Close, ",")?;
+            self.put_change(name, pair)?;
+        }
+        Ok(())
+    }
+
+    fn put_sets(&mut self, name: &Option<Text>, pairs: &[Pair]) -> Result<(), Memory>
+        ensures { OnOk result (self.new ≡ puts self.old (g.parted (g.change name.now) t.Comma pairs.now)) }
+    {
+        match pairs {
+            [] => Ok(()),
+            [first, others @ ..] => {
+                self.put_change(name, first)?;
+                self.put_further_changes(name, others)
+            }
+        }
+    }
+
+    /// What the statement changes.
+    fn put_changes(&mut self, name: &Option<Text>, change: &Change) -> Result<(), Memory>
+        ensures { OnOk result (self.new ≡ puts self.old (g.changes name.now change.now)) }
+    {
+        match change {
+            Change::Keep => Ok(()),
+            Change::Set(pairs) => {
+                self.put(Shape::Word, "SET")?;
+                self.put_sets(name, pairs.as_slice())
+            }
+            Change::Delete => {
+                self.put(Shape::Word, "DELETE")?;
+                self.put_bound(name)
+            }
+        }
+    }
+
+    fn put_item(&mut self, name: &Option<Text>, item: &Item) -> Result<(), Memory>
+        ensures { OnOk result (self.new ≡ puts self.old (g.item name.now item.now)) }
+    {
+        match item {
+            Item::Whole => self.put_bound(name),
+            Item::Sum(sum) => self.put_sum(name, sum),
+        }
+    }
+
+    /// Further items, each with a comma before it.
+    fn put_further_items(&mut self, name: &Option<Text>, items: &[Item]) -> Result<(), Memory>
+        ensures { OnOk result (self.new ≡ puts self.old (g.further (g.item name.now) t.Comma items.now)) }
+    {
+        for item in items {
+            self.put(Shape::Close, ",")?;
+            self.put_item(name, item)?;
+        }
+        Ok(())
+    }
+
+    fn put_items(&mut self, name: &Option<Text>, items: &[Item]) -> Result<(), Memory>
+        ensures { OnOk result (self.new ≡ puts self.old (g.parted (g.item name.now) t.Comma items.now)) }
+    {
+        match items {
+            [] => Ok(()),
+            [first, others @ ..] => {
+                self.put_item(name, first)?;
+                self.put_further_items(name, others)
+            }
+        }
+    }
+
+    /// The number of nodes.
+    fn put_count(&mut self, name: &Option<Text>) -> Result<(), Memory>
+        ensures { OnOk result (self.new ≡ puts self.old (t.Return ∷ t.Name (codes "count") ∷ t.Open ∷ (g.given name.now ++ t.Close ∷ []))) }
+    {
+        self.put(Shape::Word, "RETURN")?;
+        self.put(Shape::Name, "count")?;
+        self.put(Shape::Open, "(")?;
+        self.put_bound(name)?;
+        self.put(Shape::Close, ")")
+    }
+
+    /// What the statement returns.
+    #[tactic(auto, using(crate::proofs::Printed::parted_plain))]
+    fn put_tail(&mut self, name: &Option<Text>, tail: &Tail) -> Result<(), Memory>
+        ensures { OnOk result (self.new ≡ puts self.old (g.tail (p.plain h.Alone tail.now) name.now tail.now)) }
+    {
+        match tail {
             Tail::Nothing => Ok(()),
-            _ => out.push_str(" "),
-        },
-    }
-}
-
-/// The number of nodes.
-fn put_count(out: &mut Text, name: &Option<Text>) -> Result<(), Memory>
-    ensures { OnOk result (out.new ≡ out.old ++ (codes "RETURN count(" ++ (p.name name.now ++ codes ")"))) }
-{
-    out.push_str("RETURN count(")?;
-    put_name(out, name)?;
-    out.push_str(")")
-}
-
-fn put_tail(alloc: Global, out: &mut Text, name: &Option<Text>, tail: &Tail) -> Result<(), Memory>
-    ensures { OnOk result (out.new ≡ out.old ++ p.tail name.now tail.now) }
-{
-    match tail {
-        Tail::Nothing => Ok(()),
-        Tail::Count => put_count(out, name),
-        Tail::Items(items) => {
-            out.push_str("RETURN ")?;
-            put_items(alloc, out, name, items.as_slice())
+            Tail::Count => self.put_count(name),
+            Tail::Items(items) => {
+                self.put(Shape::Word, "RETURN")?;
+                self.put_items(name, items.as_slice())
+            }
         }
     }
 }
@@ -362,12 +400,15 @@ fn put_tail(alloc: Global, out: &mut Text, name: &Option<Text>, tail: &Tail) -> 
 fn text_of(alloc: Global, statement: &Statement) -> Result<Text, Memory>
     ensures { IfOk result (λ t. t ≡ printed statement.now) }
 {
-    let mut out = Text::new(alloc);
-    put_head(alloc, &mut out, &statement.name, &statement.head)?;
-    put_whole_change(alloc, &mut out, &statement.name, &statement.change)?;
-    put_space(&mut out, &statement.head, &statement.tail)?;
-    put_tail(alloc, &mut out, &statement.name, &statement.tail)?;
-    Ok(out)
+    let mut printer = Printer {
+        alloc,
+        out: Text::new(alloc),
+        last: Shape::Start,
+    };
+    printer.put_head(&statement.name, &statement.head)?;
+    printer.put_changes(&statement.name, &statement.change)?;
+    printer.put_tail(&statement.name, &statement.tail)?;
+    Ok(printer.out)
 }
 
 /// The one text of a statement, by the rules of `docs/CYPHER.md`. No AS and no semicolon is in it, so that its columns

@@ -6,6 +6,8 @@ ghost use Rattle.ncc_cypher.specs.declared.error.ParseError.TheVariants.{Syntax}
 ghost use Rattle.ncc_cypher.specs.declared.error.SyntaxKind.{SyntaxKind};
 ghost use Rattle.ncc_cypher.specs.Spelled.{Spelled, Stopped, IsOrMemory};
 ghost use Rattle.ncc_cypher.specs.Outcome.{ended, Outcome};
+ghost use Rattle.ncc_cypher.specs.Columns.{Within};
+ghost use Rattle.ncc_cypher.specs.Parsed.{parsed, IsAnswer};
 
 use crate::error::{ParseError, SyntaxKind};
 use crate::lex::token_at;
@@ -91,6 +93,10 @@ pub fn parse(alloc: Global, source: &str) -> Result<Statement, ParseError>
     ensures found { IfOk result (λ s. Spelled s source.now) }
     // What is spelled so is read, unless memory runs out.
     ensures only { (s : Statement) → Spelled s source.now → IsOrMemory result (Ok s) }
+    // The answer is this function of the source, unless memory runs out.
+    ensures exact { IsAnswer result (parsed source.now) }
+    // The columns have no more bytes than the source, even with one more for each.
+    ensures columns { IfOk result (λ s. Within source.now s) }
     // A refusal is at the first place where the source goes wrong, and says how.
     ensures refused { (at : ℕ) (kind : SyntaxKind) → result ≡ Err (Syntax at kind) → Stopped source.now at kind }
 {

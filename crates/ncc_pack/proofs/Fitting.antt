@@ -1,5 +1,6 @@
 -- Steps of the loops that ask whether values fit.
-use Rattle.std.proofs.Common.{◌≡◌, ℕ, zero, suc, ◌-◌, ◌+◌, ◌<◌, ◌≤◌, Bool, true, false, not, cond, eqb, ◌||◌, ◌&&◌, List, [], ◌∷◌, ◌++◌, length, map, take, drop, get_or, refl, sym, ap, ◌∙◌, arith}
+use Rattle.std.proofs.Common.{◌≡◌, ℕ, zero, suc, ◌-◌, ◌+◌, ◌<◌, ◌≤◌, Bool, true, false, not, cond, eqb, ◌||◌, ◌&&◌, List, [], ◌∷◌, ◌++◌}
+use Rattle.std.proofs.Common.{length, map, take, drop, get_or, refl, sym, ap, ◌∙◌, arith}
 use Rattle.std.specs.Prelude.{nat_le, IsUtf8, ℤ, pos, negsuc}
 use Rattle.std.specs.Borrow.{Bor}
 use Rattle.std.specs.List.{list_all, list_any}
@@ -46,17 +47,21 @@ small_enough n le = rw (le-leb n max_size le) refl
 -- ---- lists, and the pairs of dictionaries
 
 -- one that fails settles it, and all that pass do
-pub one_fails : {A : Type 0} (p : A → Bool) (xs ys : List A) (i : ℕ) (x : A) → ys ≡ xs → i < length ys → x ≡ get_or ys i x → p x ≡ false → list_all p xs ≡ false
+pub one_fails : {A : Type 0} (p : A → Bool) (xs ys : List A) (i : ℕ) (x : A) → ys ≡ xs → i < length ys → x ≡ get_or ys i x → p x ≡ false
+    → list_all p xs ≡ false
 one_fails p xs ys i x same lt is f = ap (list_all p) (sym same) ∙ list_all_at p ys i x lt (ap p (sym is) ∙ f)
 
-pub all_pass : {A : Type 0} (p : A → Bool) (xs ys : List A) (i : ℕ) → ys ≡ xs → length ys ≤ i → list_all p (take i ys) ≡ true → list_all p xs ≡ true
+pub all_pass : {A : Type 0} (p : A → Bool) (xs ys : List A) (i : ℕ) → ys ≡ xs → length ys ≤ i → list_all p (take i ys) ≡ true
+    → list_all p xs ≡ true
 all_pass p xs ys i same done h = ap (list_all p) (sym same ∙ sym (take_all i ys done)) ∙ h
 
-pub one_passes : {A : Type 0} (p : A → Bool) (ys : List A) (i : ℕ) (x : A) → i < length ys → x ≡ get_or ys i x → list_all p (take i ys) ≡ true → p x ≡ true → list_all p (take (i + 1) ys) ≡ true
+pub one_passes : {A : Type 0} (p : A → Bool) (ys : List A) (i : ℕ) (x : A) → i < length ys → x ≡ get_or ys i x
+    → list_all p (take i ys) ≡ true → p x ≡ true → list_all p (take (i + 1) ys) ≡ true
 one_passes p ys i x lt is h f = list_all_more p ys i x lt ∙ rw (h, ← is, f) refl
 
 -- with levels left, a list fits where its size does and each item fits with one level less
-pub list_more : (xs : List Value) (d : ℕ) → 0 < d → fits_list (map fit xs) d ≡ (nat_le (length xs) max_size && list_all (λ x. fits_within x (d - 1)) xs)
+pub list_more : (xs : List Value) (d : ℕ) → 0 < d → fits_list (map fit xs) d
+    ≡ (nat_le (length xs) max_size && list_all (λ x. fits_within x (d - 1)) xs)
 list_more xs zero lt = absurd (omega arith)
 list_more xs (suc d) lt =
     let e : suc d - 1 ≡ d = omega arith in
@@ -66,13 +71,16 @@ pub same_keys : (earlier : List (List ℕ)) (ps : List (List ℕ × Value)) → 
 same_keys earlier [] = refl
 same_keys earlier (p ∷ ps) = ap (λ (b : Bool). not (list_any (bytes_eq p.0) earlier) && b) (same_keys (earlier ++ p.0 ∷ []) ps)
 
-pub dict_more : (ps : List (List ℕ × Value)) (d : ℕ) → 0 < d → fits_dict (map fit_pair ps) d ≡ (nat_le (length ps) max_size && list_all (λ p. fits_text p.0 && fits_within p.1 (d - 1)) ps && distinct [] ps)
+pub dict_more : (ps : List (List ℕ × Value)) (d : ℕ) → 0 < d → fits_dict (map fit_pair ps) d
+    ≡ (nat_le (length ps) max_size && list_all (λ p. fits_text p.0 && fits_within p.1 (d - 1)) ps && distinct [] ps)
 dict_more ps zero lt = absurd (omega arith)
 dict_more ps (suc d) lt =
     let e : suc d - 1 ≡ d = omega arith in
     rw (e, length-map ps fit_pair, list_all-map (λ (p : List ℕ × Fit). fits_text p.0 && p.1.levels d) fit_pair ps, same_keys [] ps) refl
 
-pub node_more : (n : NodeValue) (d : ℕ) → 0 < d → fits_node n d ≡ (fits_i64 n.id && (fits_list (map fit n.labels) (d - 1) && list_all (λ x. (fit x).is_text) n.labels) && fits_dict (map fit_pair n.props) (d - 1))
+pub node_more : (n : NodeValue) (d : ℕ) → 0 < d → fits_node n d
+    ≡ (fits_i64 n.id && (fits_list (map fit n.labels) (d - 1) && list_all (λ x. (fit x).is_text) n.labels) && fits_dict
+    (map fit_pair n.props) (d - 1))
 node_more n zero lt = absurd (omega arith)
 node_more n (suc d) lt =
     let e : suc d - 1 ≡ d = omega arith in
@@ -89,16 +97,21 @@ keys_more ps i d lt =
     rw (e, take-suc ps i d lt) (map_push (λ (p : List ℕ × Value). p.0) (take i ps) (get_or ps i d))
 
 -- the next key, and then the rest
-pub distinct_step : (ps : Pairs) (i : ℕ) (d : List ℕ × Value) → i < length ps → distinct (keys (take i ps)) (drop i ps) ≡ (not (list_any (bytes_eq (get_or ps i d).0) (keys (take i ps))) && distinct (keys (take (i + 1) ps)) (drop (i + 1) ps))
+pub distinct_step : (ps : Pairs) (i : ℕ) (d : List ℕ × Value) → i < length ps
+    → distinct (keys (take i ps)) (drop i ps) ≡ (not (list_any (bytes_eq (get_or ps i d).0) (keys (take i ps))) && distinct
+    (keys (take (i + 1) ps)) (drop (i + 1) ps))
 distinct_step ps i d lt =
     let e : i + 1 ≡ suc i = omega arith in
     rw (drop-cons ps i d lt, keys_more ps i d lt, e) refl
 
 -- a key that was there, one that was not, and the end
-pub came_before : (ps : Pairs) (i : ℕ) (d : List ℕ × Value) → i < length ps → distinct [] ps ≡ distinct (keys (take i ps)) (drop i ps) → list_any (bytes_eq (get_or ps i d).0) (keys (take i ps)) ≡ true → distinct [] ps ≡ false
+pub came_before : (ps : Pairs) (i : ℕ) (d : List ℕ × Value) → i < length ps → distinct [] ps ≡ distinct (keys (take i ps)) (drop i ps)
+    → list_any (bytes_eq (get_or ps i d).0) (keys (take i ps)) ≡ true → distinct [] ps ≡ false
 came_before ps i d lt so_far h = so_far ∙ distinct_step ps i d lt ∙ rw h refl
 
-pub is_fresh : (ps : Pairs) (i : ℕ) (d : List ℕ × Value) → i < length ps → distinct [] ps ≡ distinct (keys (take i ps)) (drop i ps) → list_any (bytes_eq (get_or ps i d).0) (keys (take i ps)) ≡ false → distinct [] ps ≡ distinct (keys (take (i + 1) ps)) (drop (i + 1) ps)
+pub is_fresh : (ps : Pairs) (i : ℕ) (d : List ℕ × Value) → i < length ps → distinct [] ps ≡ distinct (keys (take i ps)) (drop i ps)
+    → list_any (bytes_eq (get_or ps i d).0) (keys (take i ps)) ≡ false
+    → distinct [] ps ≡ distinct (keys (take (i + 1) ps)) (drop (i + 1) ps)
 is_fresh ps i d lt so_far h = so_far ∙ distinct_step ps i d lt ∙ rw h refl
 
 pub all_fresh : (ps : Pairs) (i : ℕ) → length ps ≤ i → distinct [] ps ≡ distinct (keys (take i ps)) (drop i ps) → distinct [] ps ≡ true
@@ -119,11 +132,21 @@ either true false = refl
 either false true = refl
 either false false = refl
 
-pub one_key_more : (s n : BTreeSet (Bor (List ℕ))) (key : Bor (List ℕ)) (ps : Pairs) (i : ℕ) (d : List ℕ × Value) → i < length ps → key.now ≡ (get_or ps i d).0 → sorted.Updates (λ x y. slice_cmp nat_cmp x.now y.now) s n key true
-    → ((q : List ℕ) → has s q ≡ list_any (bytes_eq q) (keys (take i ps))) → (q : List ℕ) → has n q ≡ list_any (bytes_eq q) (keys (take (i + 1) ps))
+pub one_key_more : (s n : BTreeSet (Bor (List ℕ))) (key : Bor (List ℕ)) (ps : Pairs) (i : ℕ) (d : List ℕ × Value) → i < length ps
+    → key.now ≡ (get_or ps i d).0 → sorted.Updates (λ x y. slice_cmp nat_cmp x.now y.now) s n key true
+    → ((q : List ℕ) → has s q ≡ list_any (bytes_eq q) (keys (take i ps))) → (q : List ℕ)
+    → has n q ≡ list_any (bytes_eq q) (keys (take (i + 1) ps))
 one_key_more s n key ps i d lt is up h q =
     let b : Bor (List ℕ) = record { ref_ptr = (0, 0); now = q } in
-    up.0 b ∙ rw (is_eq-slice_cmp key.now q, h q, flipped key.now q, keys_more ps i d lt, list_any-append (bytes_eq q) (keys (take i ps)) ((get_or ps i d).0 ∷ []), ← is)
+    up.0 b ∙ rw (
+      is_eq-slice_cmp key.now q,
+      h q,
+      flipped key.now q,
+      keys_more ps i d lt,
+      list_any-append (bytes_eq q) (keys (take i ps))
+          ((get_or ps i d).0 ∷ []),
+      ← is,
+    )
     (either (bytes_eq q key.now) (list_any (bytes_eq q) (keys (take i ps))))
 
 pub in_set : (a b : Bool) → a ≡ false → a ≡ not b → b ≡ true
@@ -138,7 +161,10 @@ or_true : (a : Bool) → (a || true) ≡ true
 or_true true = refl
 or_true false = refl
 
-pub key_found : (key : List ℕ) (ps : Pairs) (i : ℕ) (p : List ℕ × Value) → i < length ps → p ≡ get_or ps i p → bytes_eq key p.0 ≡ true → list_any (bytes_eq key) (keys ps) ≡ true
+pub key_found : (key : List ℕ) (ps : Pairs) (i : ℕ) (p : List ℕ × Value) → i < length ps → p ≡ get_or ps i p → bytes_eq key p.0 ≡ true
+    → list_any (bytes_eq key) (keys ps) ≡ true
 key_found key [] i p lt is h = absurd (omega arith)
-key_found key (q ∷ ps) zero p lt is h = let e : bytes_eq key q.0 ≡ true = ap (λ (x : List ℕ × Value). bytes_eq key x.0) (sym is) ∙ h in rw e refl
-key_found key (q ∷ ps) (suc i) p lt is h = let lt' : i < length ps = omega arith in rw (key_found key ps i p lt' is h) (or_true (bytes_eq key q.0))
+key_found key (q ∷ ps) zero p lt is h = let e : bytes_eq key q.0 ≡ true = ap (λ (x : List ℕ × Value). bytes_eq key x.0) (sym is)
+    ∙ h in rw e refl
+key_found key (q ∷ ps) (suc i) p lt is h = let lt' : i < length ps =
+    omega arith in rw (key_found key ps i p lt' is h) (or_true (bytes_eq key q.0))

@@ -1,5 +1,6 @@
 -- What `decode` gives, and that no spelling begins another.
-use Rattle.std.proofs.Common.{◌≡◌, ℕ, zero, suc, ◌+◌, ◌-◌, ◌≤◌, List, [], ◌∷◌, ◌++◌, length, take, drop, Result, Ok, Err, refl, sym, ap, ◌∙◌, arith}
+use Rattle.std.proofs.Common.{◌≡◌, ℕ, zero, suc, ◌+◌, ◌-◌, ◌≤◌, List, [], ◌∷◌, ◌++◌, length, take, drop, Result, Ok, Err, refl, sym, ap}
+use Rattle.std.proofs.Common.{◌∙◌, arith}
 use Rattle.std.proofs.lemmas.List.{take_at, drop_at, drop_all, take-append-drop, length-append, length-take}
 use Rattle.ncc_pack.specs.declared.value.Value.{Value}
 use Rattle.ncc_pack.specs.declared.error.PackError.{PackError}
@@ -13,7 +14,8 @@ use Rattle.ncc_pack.proofs.Taken.{value_taken}
 abbrev okay : {A : Type 0} → A → Result A PackError
 okay y = Ok y
 
-pub used : (total d : ℕ) (bytes : List ℕ) (x : Value) (rest : List ℕ) → IsBytes bytes → value_at total d bytes ≡ Ok (x, rest) → length rest ≤ length bytes
+pub used : (total d : ℕ) (bytes : List ℕ) (x : Value) (rest : List ℕ) → IsBytes bytes → value_at total d bytes ≡ Ok (x, rest)
+    → length rest ≤ length bytes
 used total d bytes x rest fits e =
     let t = value_taken total d bytes (x, rest) fits e in
     omega (arith, ap length t.parts, length-append t.front rest)
@@ -23,30 +25,36 @@ pub found : (total d : ℕ) (bytes : List ℕ) (x : Value) (rest : List ℕ) →
 found total d bytes x rest fits e =
     let t = value_taken total d bytes (x, rest) fits e in
     let n : length bytes - length rest ≡ length t.front = omega (arith, ap length t.parts, length-append t.front rest) in
-    let f : take (length bytes - length rest) bytes ≡ t.front = ap (λ (k : ℕ). take k bytes) n ∙ ap (take (length t.front)) t.parts ∙ take_at t.front rest (length t.front) refl in
-    let b : drop (length bytes - length rest) bytes ≡ rest = ap (λ (k : ℕ). drop k bytes) n ∙ ap (drop (length t.front)) t.parts ∙ drop_at t.front rest (length t.front) refl in
+    let f : take (length bytes - length rest) bytes ≡ t.front = ap (λ (k : ℕ). take k bytes) n ∙ ap (take (length t.front)) t.parts
+    ∙ take_at t.front rest (length t.front) refl in
+    let b : drop (length bytes - length rest) bytes ≡ rest = ap (λ (k : ℕ). drop k bytes) n ∙ ap (drop (length t.front)) t.parts
+    ∙ drop_at t.front rest (length t.front) refl in
     (rw f t.spells, b)
 
 never : {A : Type 0} (y : A) (err : PackError) → okay y ≡ Err err → ⊥
 never y err e = cc
 
-reads_so : (total d : ℕ) (bytes : List ℕ) (x : Value) (b rest : List ℕ) → Spells (levels d) x b → bytes ≡ b ++ rest → value_at total d bytes ≡ Ok (x, rest)
+reads_so : (total d : ℕ) (bytes : List ℕ) (x : Value) (b rest : List ℕ) → Spells (levels d) x b → bytes ≡ b ++ rest
+    → value_at total d bytes ≡ Ok (x, rest)
 reads_so total d bytes x b rest sp e = ap (value_at total d) e ∙ value_again total d x b rest sp
 
-pub only_ok : (total d : ℕ) (bytes : List ℕ) (y : Value) (left : List ℕ) → value_at total d bytes ≡ Ok (y, left) → (x : Value) (b rest : List ℕ) → Spells (levels d) x b → bytes ≡ b ++ rest
+pub only_ok : (total d : ℕ) (bytes : List ℕ) (y : Value) (left : List ℕ) → value_at total d bytes ≡ Ok (y, left)
+    → (x : Value) (b rest : List ℕ) → Spells (levels d) x b → bytes ≡ b ++ rest
     → (x ≡ y) × (length b ≡ length bytes - length left)
 only_ok total d bytes y left e x b rest sp parts =
     let same : (x, rest) ≡ (y, left) = ok_is (x, rest) (y, left) (sym (reads_so total d bytes x b rest sp parts) ∙ e) in
     let r : rest ≡ left = ap (λ (p : Value × List ℕ). p.1) same in
     (ap (λ (p : Value × List ℕ). p.0) same, omega (arith, ap length parts, length-append b rest, ap length r))
 
-pub only_err : (total d : ℕ) (bytes : List ℕ) (err : PackError) → Fails err (value_at total d bytes) → (x : Value) (b rest : List ℕ) → Spells (levels d) x b → bytes ≡ b ++ rest
+pub only_err : (total d : ℕ) (bytes : List ℕ) (err : PackError) → Fails err (value_at total d bytes) → (x : Value) (b rest : List ℕ)
+    → Spells (levels d) x b → bytes ≡ b ++ rest
     → Fails {Y = Value × ℕ} err (Ok (x, length b))
 only_err total d bytes err fails x b rest sp parts =
     let g = reads_so total d bytes x b rest sp parts in
     fails_on err (value_at total d bytes) (Ok (x, length b)) (λ h. absurd (never (x, rest) err (sym g ∙ h))) fails
 
-pub one_form : (d : ℕ) (x y : Value) (a b r s : List ℕ) → Spells (levels d) x a → Spells (levels d) y b → a ++ r ≡ b ++ s → (x ≡ y) × (a ≡ b)
+pub one_form : (d : ℕ) (x y : Value) (a b r s : List ℕ) → Spells (levels d) x a → Spells (levels d) y b → a ++ r ≡ b ++ s → (x ≡ y)
+    × (a ≡ b)
 one_form d x y a b r s p q e =
     let same : (x, r) ≡ (y, s) = ok_is (x, r) (y, s) (sym (value_again 0 d x a r p) ∙ ap (value_at 0 d) e ∙ value_again 0 d y b s q) in
     let rs : r ≡ s = ap (λ (z : Value × List ℕ). z.1) same in

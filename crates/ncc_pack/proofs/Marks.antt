@@ -49,16 +49,23 @@ test P false x y f g = g refl
 
 sized_says : (m : ℕ) → Says m (sized_marker m)
 sized_says m =
-    test (Says m) (m == 0xCC) _ _ (eqb-true m 0xCC) (λ _. test (Says m) (m == 0xCD) _ _ (eqb-true m 0xCD) (λ _. test (Says m) (m == 0xCE) _ _ (eqb-true m 0xCE) (λ _.
-    test (Says m) (m == 0xD0) _ _ (eqb-true m 0xD0) (λ _. test (Says m) (m == 0xD1) _ _ (eqb-true m 0xD1) (λ _. test (Says m) (m == 0xD2) _ _ (eqb-true m 0xD2) (λ _.
-    test (Says m) (m == 0xD4) _ _ (eqb-true m 0xD4) (λ _. test (Says m) (m == 0xD5) _ _ (eqb-true m 0xD5) (λ _. test (Says m) (m == 0xD6) _ _ (eqb-true m 0xD6) (λ _.
-    test (Says m) (m == 0xD8) _ _ (eqb-true m 0xD8) (λ _. test (Says m) (m == 0xD9) _ _ (eqb-true m 0xD9) (λ _. test (Says m) (m == 0xDA) _ _ (eqb-true m 0xDA) (λ _.
+    test (Says m) (m == 0xCC) _ _ (eqb-true m 0xCC) (λ _. test (Says m) (m == 0xCD) _ _ (eqb-true m 0xCD)
+    (λ _. test (Says m) (m == 0xCE) _ _ (eqb-true m 0xCE) (λ _.
+    test (Says m) (m == 0xD0) _ _ (eqb-true m 0xD0) (λ _. test (Says m) (m == 0xD1) _ _ (eqb-true m 0xD1)
+    (λ _. test (Says m) (m == 0xD2) _ _ (eqb-true m 0xD2) (λ _.
+    test (Says m) (m == 0xD4) _ _ (eqb-true m 0xD4) (λ _. test (Says m) (m == 0xD5) _ _ (eqb-true m 0xD5)
+    (λ _. test (Says m) (m == 0xD6) _ _ (eqb-true m 0xD6) (λ _.
+    test (Says m) (m == 0xD8) _ _ (eqb-true m 0xD8) (λ _. test (Says m) (m == 0xD9) _ _ (eqb-true m 0xD9)
+    (λ _. test (Says m) (m == 0xDA) _ _ (eqb-true m 0xDA) (λ _.
     test (Says m) (m == 0xB3) _ _ (eqb-true m 0xB3) (λ _. tt)))))))))))))
 
 plain_says : (m : ℕ) → Says m (plain_marker m)
 plain_says m =
-    test (Says m) (m == 0xC0) _ _ (eqb-true m 0xC0) (λ _. test (Says m) (m == 0xC1) _ _ (λ _. tt) (λ _. test (Says m) (m == 0xC2) _ _ (eqb-true m 0xC2) (λ _. test (Says m) (m == 0xC3) _ _ (eqb-true m 0xC3) (λ _.
-    test (Says m) (m == 0xC8) _ _ (eqb-true m 0xC8) (λ _. test (Says m) (m == 0xC9) _ _ (eqb-true m 0xC9) (λ _. test (Says m) (m == 0xCA) _ _ (eqb-true m 0xCA) (λ _. test (Says m) (m == 0xCB) _ _ (eqb-true m 0xCB) (λ _. sized_says m))))))))
+    test (Says m) (m == 0xC0) _ _ (eqb-true m 0xC0) (λ _. test (Says m) (m == 0xC1) _ _ (λ _. tt)
+    (λ _. test (Says m) (m == 0xC2) _ _ (eqb-true m 0xC2) (λ _. test (Says m) (m == 0xC3) _ _ (eqb-true m 0xC3) (λ _.
+    test (Says m) (m == 0xC8) _ _ (eqb-true m 0xC8) (λ _. test (Says m) (m == 0xC9) _ _ (eqb-true m 0xC9)
+    (λ _. test (Says m) (m == 0xCA) _ _ (eqb-true m 0xCA)
+    (λ _. test (Says m) (m == 0xCB) _ _ (eqb-true m 0xCB) (λ _. sized_says m))))))))
 
 pub says : (m : ℕ) → m < 256 → Says m (marker m)
 unfolding marker

@@ -1,5 +1,6 @@
 -- Texts that are well formed, and texts whose bytes end too early.
-use Rattle.std.proofs.Common.{◌≡◌, ℕ, ◌<◌, ◌≤◌, zero, suc, cond, Bool, true, false, List, [], length, take, drop, Ok, None, refl, sym, ◌∙◌, arith}
+use Rattle.std.proofs.Common.{◌≡◌, ℕ, ◌<◌, ◌≤◌, zero, suc, cond, Bool, true, false, List, [], length, take, drop, Ok, None, refl, sym}
+use Rattle.std.proofs.Common.{◌∙◌, arith}
 use Rattle.std.specs.Prelude.{IsUtf8, is_some}
 use Rattle.std.specs.Str.{is_utf8}
 use Rattle.std.specs.Str.Lossy.{utf8_valid_len, utf8_error_len, valid_len_up_to}
@@ -12,7 +13,7 @@ stays : (b : Bool) (x y : ℕ) → cond b x y ≡ x → y < x → b ≡ true
 stays true x y e lt = refl
 stays false x y e lt = absurd (omega arith)
 
-no_error : utf8_error_len [] ≡ None
+pub no_error : utf8_error_len [] ≡ None
 unfolding utf8_error_len
 no_error = refl
 
@@ -24,7 +25,8 @@ none_ill bytes h =
     let e : drop (utf8_valid_len bytes) bytes ≡ [] = rw (utf8_valid_len-IsUtf8 bytes h) (drop_all (length bytes) bytes (omega arith)) in
     rw (e, no_error) refl
 
-pub text_whole : (total n : ℕ) (bytes : List ℕ) → n ≤ length bytes → IsUtf8 (take n bytes) → text_at total n bytes ≡ Ok (take n bytes, drop n bytes)
+pub text_whole : (total n : ℕ) (bytes : List ℕ) → n ≤ length bytes → IsUtf8 (take n bytes)
+    → text_at total n bytes ≡ Ok (take n bytes, drop n bytes)
 unfolding text_at
 text_whole total n bytes le h =
     let e : utf8_valid_len (take n bytes) ≡ n = utf8_valid_len-IsUtf8 (take n bytes) h ∙ omega (arith, length-take n bytes) in

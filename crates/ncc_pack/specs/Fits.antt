@@ -1,4 +1,4 @@
--- Which values have a spelling: their sizes, their depth, their keys and their labels.
+-- Which values have a spelling (PackStream version 1, "Data types"): their sizes, their depth, their keys and their labels.
 use Rattle.std.specs.Prelude.{ℕ, zero, suc, ℤ, pos, negsuc, Bool, true, false, ◌&&◌, nat_lt, nat_le, List, [], length}
 use Rattle.std.specs.List.{list_all}
 use Rattle.std.specs.Str.{is_utf8}

@@ -1,4 +1,4 @@
--- The keys of pairs.
+-- The keys of the pairs of a dictionary (PackStream version 1, "Data types", Dictionary): no key comes twice.
 use Rattle.std.specs.Prelude.{Bool, true, not, ◌&&◌, ℕ, List, [], ◌∷◌, ◌++◌, map}
 use Rattle.std.specs.List.{list_any}
 use Rattle.std.specs.Str.{bytes_eq}

@@ -1,7 +1,8 @@
--- What each marker byte says (PackStream, "Representation").
+-- What each marker byte says (PackStream version 1, "Representation").
 use Rattle.std.specs.Prelude.{ℕ, ◌-◌, pos, negsuc, true, false, if◌then◌else◌, nat_lt, ◌==◌}
 use Rattle.ncc_pack.specs.declared.mark.Mark.{Mark}
-use Rattle.ncc_pack.specs.declared.mark.Mark.TheVariants.{Null, Bool, Small, Int1, Int2, Int4, Int8, Bytes, Text, List, Dict, Node, Float, Bad}
+use Rattle.ncc_pack.specs.declared.mark.Mark.TheVariants.{Null, Bool, Small, Int1, Int2, Int4, Int8, Bytes, Text, List, Dict, Node, Float}
+use Rattle.ncc_pack.specs.declared.mark.Mark.TheVariants.{Bad}
 use Rattle.ncc_pack.specs.declared.mark.Size.TheVariants.{Here, One, Two, Four}
 
 -- markers with a size behind them, and the node's

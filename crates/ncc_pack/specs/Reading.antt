@@ -1,5 +1,6 @@
--- Reading from left to right, up to the first fault that stands in the bytes.
-use Rattle.std.specs.Prelude.{◌≡◌, ℕ, zero, suc, ◌+◌, ◌-◌, ℤ, List, [], ◌∷◌, ◌++◌, length, take, drop, is_some, Result, Ok, Err, nat_lt, ◌==◌, ◌||◌, if◌then◌else◌}
+-- Reading from left to right (PackStream version 1, "Representation"), up to the first fault that stands in the bytes.
+use Rattle.std.specs.Prelude.{◌≡◌, ℕ, zero, suc, ◌+◌, ◌-◌, ℤ, List, [], ◌∷◌, ◌++◌, length, take, drop, is_some, Result, Ok, Err, nat_lt}
+use Rattle.std.specs.Prelude.{◌==◌, ◌||◌, if◌then◌else◌}
 use Rattle.std.specs.Int.{Width, w8, w16, w32, w64, byte_len, from_be_bytes, cast_signed}
 use Rattle.std.specs.List.{list_any}
 use Rattle.std.specs.Str.{bytes_eq}
@@ -8,7 +9,8 @@ use Rattle.ncc_pack.specs.declared.value.Value.{Value}
 use Rattle.ncc_pack.specs.declared.value.Value.TheVariants as v
 use Rattle.ncc_pack.specs.declared.value.NodeValue.{NodeValue}
 use Rattle.ncc_pack.specs.declared.error.PackError.{PackError}
-use Rattle.ncc_pack.specs.declared.error.PackError.TheVariants.{Short, BadMarker, BadUtf8, RepeatedKey, KeyNotText, TooDeep, TooLong, Memory}
+use Rattle.ncc_pack.specs.declared.error.PackError.TheVariants.{Short, BadMarker, BadUtf8, RepeatedKey, KeyNotText, TooDeep, TooLong}
+use Rattle.ncc_pack.specs.declared.error.PackError.TheVariants.{Memory}
 use Rattle.ncc_pack.specs.declared.error.PackError.TheVariants as e
 use Rattle.ncc_pack.specs.declared.mark.Mark.{Mark}
 use Rattle.ncc_pack.specs.declared.mark.Mark.TheVariants as k
@@ -40,7 +42,8 @@ Gives view (Err e) read = Fails e read
 -- ---- numbers and sizes
 
 abbrev pub number_at : Width → List ℕ → Read ℕ
-number_at w bytes = if nat_lt (length bytes) (byte_len w) then Err Short else Ok (from_be_bytes w (take (byte_len w) bytes), drop (byte_len w) bytes)
+number_at w bytes = if nat_lt (length bytes) (byte_len w) then Err Short else Ok
+    (from_be_bytes w (take (byte_len w) bytes), drop (byte_len w) bytes)
 
 abbrev pub integer_at : Width → List ℕ → Read ℤ
 integer_at w bytes = number_at w bytes >>= λ n. Ok (cast_signed w n.0, n.1)
@@ -66,7 +69,8 @@ sequence_len (b ∷ bytes) = if nat_lt b 0x80 then 1 else (if nat_lt b 0xE0 then
 -- the fault of a text of n bytes whose bytes end too early: ill-formed already, or with no room for its last sequence, or short
 abbrev pub cut_text : ℕ → ℕ → List ℕ → PackError
 cut_text total n bytes = let good = utf8_valid_len bytes in
-    if is_some (utf8_error_len (drop good bytes)) || nat_lt n (good + sequence_len (drop good bytes)) then BadUtf8 (total - (length bytes - good)) else Short
+    if is_some (utf8_error_len (drop good bytes)) || nat_lt n (good + sequence_len (drop good bytes)) then BadUtf8
+    (total - (length bytes - good)) else Short
 
 unfoldable pub text_at : ℕ → ℕ → List ℕ → Read (List ℕ)
 text_at total n bytes =
@@ -187,8 +191,18 @@ node_of total zero inside at bytes = Err (TooDeep at)
 node_of total (suc d) inside at bytes = fields_at total inside bytes
 
 unfoldable pub within : ℕ → ℕ → Holders
-within total zero = record { list = λ at s bytes. Err (TooDeep at); dict = λ at s bytes. Err (TooDeep at); node = λ at bytes. Err (TooDeep at) }
-within total (suc d) = record { list = list_of total (within total d); dict = dict_of total (within total d); node = node_of total d (within total d) }
+within total zero = record {
+  list = λ at s bytes. Err (TooDeep at);
+  dict = λ at s bytes. Err (TooDeep at);
+  node =
+      λ at bytes. Err (TooDeep at);
+}
+within total (suc d) = record {
+  list = list_of total (within total d);
+  dict = dict_of total (within total d);
+  node =
+      node_of total d (within total d);
+}
 
 -- the value that bytes begin with, among so many bytes in all, with so many levels left
 abbrev pub value_at : ℕ → ℕ → List ℕ → Read Value

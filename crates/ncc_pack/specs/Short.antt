@@ -1,5 +1,6 @@
--- The shortest spelling of a value.
-use Rattle.std.specs.Prelude.{ℕ, ◌+◌, ℤ, pos, negsuc, int_le, int_lt, Bool, true, false, ◌&&◌, if◌then◌else◌, nat_lt, List, [], ◌∷◌, ◌++◌, length}
+-- The shortest spelling of a value (PackStream version 1, "Representation"): the fewest bytes for each integer and each size.
+use Rattle.std.specs.Prelude.{ℕ, ◌+◌, ℤ, pos, negsuc, int_le, int_lt, Bool, true, false, ◌&&◌, if◌then◌else◌, nat_lt, List, [], ◌∷◌, ◌++◌}
+use Rattle.std.specs.Prelude.{length}
 use Rattle.std.specs.Int.{w8, w16, w32, w64, to_be_bytes, cast_unsigned}
 use Rattle.ncc_pack.specs.declared.value.Value.{Value, fold-Value}
 use Rattle.ncc_pack.specs.declared.value.NodeValue.{NodeValue, fold-NodeValue}

@@ -1,5 +1,6 @@
 -- Which bytes spell a value: a case for each marker (PackStream version 1, "Representation"). It is apart from reading and writing.
-use Rattle.std.specs.Prelude.{◌≡◌, ℕ, zero, suc, ◌+◌, ◌-◌, ◌<◌, ◌≤◌, ◌^◌, ℤ, pos, negsuc, true, false, List, [], ◌∷◌, ◌++◌, length, IsUtf8, IsTrue}
+use Rattle.std.specs.Prelude.{◌≡◌, ℕ, zero, suc, ◌+◌, ◌-◌, ◌<◌, ◌≤◌, ◌^◌, ℤ, pos, negsuc, true, false, List, [], ◌∷◌, ◌++◌, length}
+use Rattle.std.specs.Prelude.{IsUtf8, IsTrue}
 use Rattle.std.specs.Int.{w8, w16, w32, w64, to_be_bytes, cast_signed}
 use Rattle.ncc_pack.specs.declared.value.Value.{Value}
 use Rattle.ncc_pack.specs.declared.value.Value.TheVariants as v
@@ -85,7 +86,8 @@ pub data Spells (hold : Holding) : Value → List ℕ → Type 0 where
 
 -- a node's three fields: its id, its labels as a list of texts, its properties
 abbrev pub Fields : Holding → NodeValue → List ℕ → Type 0
-Fields inside n b = (i : List ℕ) × (l : List ℕ) × (p : List ℕ) × SpellsInt n.id i × Listed lists Label n.labels l × inside.dict n.props p × (b ≡ 0xB3 ∷ 0x4E ∷ i ++ l ++ p)
+Fields inside n b = (i : List ℕ) × (l : List ℕ) × (p : List ℕ) × SpellsInt n.id i × Listed lists Label n.labels l × inside.dict n.props p
+    × (b ≡ 0xB3 ∷ 0x4E ∷ i ++ l ++ p)
 
 -- with one level more than a node needs for its labels
 abbrev pub Node : ℕ → Holding → NodeValue → List ℕ → Type 0

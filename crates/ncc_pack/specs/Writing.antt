@@ -1,12 +1,21 @@
--- What the parts of the writer ask, and what is left when writing stops for want of memory.
+-- What writing gives (a spelling, as PackStream version 1, "Representation", has it), and what its parts ask.
 use Rattle.std.specs.Prelude.{◌≡◌, ℕ, List, ◌++◌, map, IsTrue}
 use Rattle.ncc_pack.specs.declared.value.Value.{Value}
 use Rattle.ncc_pack.specs.declared.value.NodeValue.{NodeValue}
+use Rattle.ncc_pack.specs.Spells.{spells, IsHead, lists}
 use Rattle.ncc_pack.specs.Fits.{fit, fit_pair, fits_list, fits_dict, fits_node, fits_within}
 
 -- one list begins another
 abbrev pub Begins : List ℕ → List ℕ → Type 0
 Begins front whole = (more : List ℕ) × (whole ≡ front ++ more)
+
+-- bytes grew by a spelling of a value
+abbrev pub Spelled : Value → List ℕ → List ℕ → Type 0
+Spelled x old new = (b : List ℕ) × spells x b × (new ≡ old ++ b)
+
+-- bytes grew by what stands before the items of a list of so many
+abbrev pub HeadSpelled : ℕ → List ℕ → List ℕ → Type 0
+HeadSpelled n old new = (h : List ℕ) × IsHead lists n h × (new ≡ old ++ h)
 
 -- a value, the items of a list, the pairs of a dictionary and a node that fit within some number of levels
 unfoldable pub SomeValue : Value → Type 0

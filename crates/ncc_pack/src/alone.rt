@@ -8,16 +8,15 @@ ghost use Rattle.ncc_pack.specs.Spells.{lists, spells};
 ghost use Rattle.ncc_pack.specs.Short.{head, short};
 ghost use Rattle.ncc_pack.specs.Fits.{fits, fits_within};
 
-use crate::bytes::Bytes;
+use crate::limits::MAX_DEPTH;
 use crate::text::Text;
 use crate::value::{Dict, Values};
-use crate::{fit, size, write};
-use std::alloc::AllocError;
+use crate::{fit, size};
 
 /// Says whether a text fits, as `Value::fits` does of a value.
 #[tactic(auto, using(crate::proofs::Single::fits_of_text))]
 pub fn text_fits(text: &Text) -> bool
-    ensures { result ≡ fits (value.Text text.now) }
+    ensures exact { result ≡ fits (value.Text text.now) }
 {
     fit::text_fits(text)
 }
@@ -25,17 +24,17 @@ pub fn text_fits(text: &Text) -> bool
 /// Says whether a list fits, as `Value::fits` does of a value.
 #[tactic(auto, using(crate::proofs::Single::fits_of_list))]
 pub fn values_fit(values: &Values) -> bool
-    ensures { result ≡ fits (value.List values.now) }
+    ensures exact { result ≡ fits (value.List values.now) }
 {
-    fit::list_fits(values, fit::MAX_DEPTH)
+    fit::list_fits(values, MAX_DEPTH)
 }
 
 /// Says whether a dictionary fits, as `Value::fits` does of a value.
 #[tactic(auto, using(crate::proofs::Single::fits_of_dict))]
 pub fn dict_fits(pairs: &Dict) -> bool
-    ensures { result ≡ fits (value.Dict pairs.now) }
+    ensures exact { result ≡ fits (value.Dict pairs.now) }
 {
-    fit::dict_fits(pairs, fit::MAX_DEPTH)
+    fit::dict_fits(pairs, MAX_DEPTH)
 }
 
 /// Says whether a list fits where so many levels are left for lists, dictionaries and nodes, of the 32 in all.
@@ -49,36 +48,26 @@ pub fn values_fit_within(values: &Values, levels: u8) -> bool
 /// Says whether a dictionary fits where so many levels are left for lists, dictionaries and nodes, of the 32 in all.
 #[tactic(auto, using(crate::proofs::Single::fits_of_dict))]
 pub fn dict_fits_within(pairs: &Dict, levels: u8) -> bool
-    ensures { result ≡ fits_within (value.Dict pairs.now) levels }
+    ensures exact { result ≡ fits_within (value.Dict pairs.now) levels }
 {
     fit::dict_fits(pairs, levels)
 }
 
 /// What fits in some levels fits in one more.
 pub fn fits_deeper()
-    ensures { (x : Value) (levels : ℕ) → IsTrue (fits_within x levels) → IsTrue (fits_within x (suc levels)) }
+    ensures deeper { (x : Value) (levels : ℕ) → IsTrue (fits_within x levels) → IsTrue (fits_within x (suc levels)) }
 {}
 
 /// What is spelled fits. So a value that was read fits.
 pub fn spelled_fits()
-    ensures { (x : Value) (b : List ℕ) → spells x b → IsTrue (fits x) }
+    ensures fitting { (x : Value) (b : List ℕ) → spells x b → IsTrue (fits x) }
 {}
 
 /// The length in bytes of what stands before the items of a list of so many. It takes no memory.
 pub fn list_head_len(len: usize) -> u64
-    ensures { result ≡ length (head lists len) }
+    ensures length { result ≡ length (head lists len) }
 {
     size::head_len(len)
-}
-
-/// Appends what stands before the items of a list of so many: its marker and its size. An `Err` leaves the bytes as they
-/// were.
-pub fn encode_list_head(len: usize, into: &mut Bytes) -> Result<(), AllocError>
-    requires { len ≤ max_size }
-    ensures ok { OnOk result (into.new ≡ into.old ++ head lists len) }
-    ensures err { OnErr result (into.new ≡ into.old) }
-{
-    write::put_head(0x90, 0xD4, len, into)
 }
 
 /// The length in bytes of the shortest spelling of a text, as `short_len` tells that of a value.
@@ -106,55 +95,4 @@ pub fn dict_len(pairs: &Dict) -> u64
     ensures { result ≡ min (length (short (value.Dict pairs.now))) (2 ^ 64 - 1) }
 {
     size::dict_len(pairs)
-}
-
-/// Appends the shortest spelling of a text, as `encode` does that of a value. An `Err` leaves the bytes as they were.
-#[tactic(auto, using(crate::proofs::Loops::text_fits, crate::proofs::Loops::short_text))]
-pub fn encode_text(written: &Text, into: &mut Bytes) -> Result<(), AllocError>
-    requires { IsTrue (fits (value.Text written.now)) }
-    ensures ok { OnOk result (into.new ≡ into.old ++ short (value.Text written.now)) }
-    ensures err { OnErr result (into.new ≡ into.old) }
-{
-    let before = into.len();
-    match write::put_text(written, into) {
-        Ok(()) => Ok(()),
-        Err(error) => {
-            into.truncate(before);
-            Err(error)
-        }
-    }
-}
-
-/// Appends the shortest spelling of a list, as `encode` does that of a value. An `Err` leaves the bytes as they were.
-#[tactic(auto, using(crate::proofs::Loops::list_fits, crate::proofs::Loops::short_list))]
-pub fn encode_values(values: &Values, into: &mut Bytes) -> Result<(), AllocError>
-    requires { IsTrue (fits (value.List values.now)) }
-    ensures ok { OnOk result (into.new ≡ into.old ++ short (value.List values.now)) }
-    ensures err { OnErr result (into.new ≡ into.old) }
-{
-    let before = into.len();
-    match write::put_values(values, into) {
-        Ok(()) => Ok(()),
-        Err(error) => {
-            into.truncate(before);
-            Err(error)
-        }
-    }
-}
-
-/// Appends the shortest spelling of a dictionary, as `encode` does that of a value. An `Err` leaves the bytes as they were.
-#[tactic(auto, using(crate::proofs::Loops::dict_fits, crate::proofs::Loops::short_dict))]
-pub fn encode_dict(pairs: &Dict, into: &mut Bytes) -> Result<(), AllocError>
-    requires { IsTrue (fits (value.Dict pairs.now)) }
-    ensures ok { OnOk result (into.new ≡ into.old ++ short (value.Dict pairs.now)) }
-    ensures err { OnErr result (into.new ≡ into.old) }
-{
-    let before = into.len();
-    match write::put_dict(pairs, into) {
-        Ok(()) => Ok(()),
-        Err(error) => {
-            into.truncate(before);
-            Err(error)
-        }
-    }
 }

@@ -2,13 +2,14 @@
 
 ghost use Rattle.std.specs.Prelude.{◌≡◌, ◌++◌, ◌∷◌, [], length, take, IfOk, OnOk, OnErr, IsTrue, ◌↔◌};
 
+use crate::element::{Compared, Copied};
 use std::alloc::{AllocError, Global};
 use std::marker::Model;
 
 /// Bytes. A contract sees the list of them.
 #[derive(Debug, Drop)]
 pub struct Bytes {
-    inner: Vec<u8>,
+    pub(crate) inner: Vec<u8>,
 }
 
 impl Model for Bytes {
@@ -29,9 +30,33 @@ impl Bytes {
         }
     }
 
+    /// The bytes of a `Vec`. It copies nothing and takes no memory.
+    pub fn from_vec(inner: Vec<u8>) -> Bytes
+        ensures same { result ≡ inner.items }
+    {
+        Bytes { inner }
+    }
+
+    /// The bytes as a `Vec`. It copies nothing and takes no memory.
+    pub fn into_vec(self) -> Vec<u8>
+        ensures same { result.items ≡ self }
+    {
+        let Bytes { inner } = self;
+        inner
+    }
+
+    /// The bytes as a `Vec`; none are left here. It copies nothing and takes no memory.
+    pub fn take(&mut self) -> Vec<u8>
+        ensures taken { result.items ≡ self.old }
+        ensures none { self.new ≡ [] }
+    {
+        let none = Vec::new(*self.inner.allocator());
+        std::mem::replace(&mut self.inner, none)
+    }
+
     /// A copy of these bytes.
     pub fn from_slice(alloc: Global, bytes: &[u8]) -> Result<Bytes, AllocError>
-        ensures { IfOk result (λ b. b ≡ bytes.now) }
+        ensures same { IfOk result (λ b. b ≡ bytes.now) }
     {
         let inner = Vec::from_slice(alloc, bytes)?;
         Ok(Bytes { inner })
@@ -42,6 +67,11 @@ impl Bytes {
         ensures { result.now ≡ self.now }
     {
         self.inner.as_slice()
+    }
+
+    /// The allocator that the bytes keep. It takes no memory.
+    pub fn allocator(&self) -> Global {
+        *self.inner.allocator()
     }
 
     /// How many bytes there are.
@@ -84,8 +114,26 @@ impl Bytes {
 
     /// An equal value, on the same allocator.
     pub fn copy(&self) -> Result<Bytes, AllocError>
-        ensures { IfOk result (λ b. b ≡ self.now) }
+        ensures equal { IfOk result (λ b. b ≡ self.now) }
     {
         Bytes::from_slice(*self.inner.allocator(), self.as_slice())
+    }
+    /// Says whether two are equal. It takes no memory.
+    pub fn equals(&self, other: &Bytes) -> bool
+        ensures exact { IsTrue result ↔ (self.now ≡ other.now) }
+    {
+        self.as_slice() == other.as_slice()
+    }
+}
+
+impl Copied for Bytes {
+    fn copy(&self) -> Result<Bytes, AllocError> {
+        Bytes::copy(self)
+    }
+}
+
+impl Compared for Bytes {
+    fn equals(&self, other: &Bytes) -> bool {
+        Bytes::equals(self, other)
     }
 }

@@ -6,7 +6,7 @@ ghost use Rattle.ncc_pack.specs.declared.error.PackError.TheVariants.{Memory};
 use std::alloc::{AllocError, AllocFailed};
 
 /// Why bytes do not begin with a value. A place counts bytes from 0.
-#[derive(Clone, Copy, Debug, thiserror::Error)]
+#[derive(Clone, Copy, Debug, PartialEq, Eq, thiserror::Error)]
 pub enum PackError {
     /// The bytes end before the value does, and no other fault stands in them.
     #[error("the bytes end before the value does")]
@@ -53,8 +53,8 @@ pub enum PackError {
         /// The place of the marker before it.
         at: u64,
     },
-    /// There was no memory.
-    #[error("no memory")]
+    /// Out of memory.
+    #[error("out of memory")]
     Memory,
 }
 

@@ -3,17 +3,17 @@
 ghost use Rattle.std.specs.Prelude.{◌≡◌, ◌++◌, ◌∷◌, [], take, drop, length, is_some, ◌<◌, ◌≤◌};
 ghost use Rattle.std.specs.Str.Lossy.{utf8_valid_len, utf8_error_len};
 ghost use Rattle.std.specs.Int.{w8, w16, w32, w64, from_be_bytes};
-ghost use Rattle.ncc_pack.specs.Reading.{Gives, number_at, size_at, bytes_at, text_at, id_at, key_at, label_at, tag_at, other_kind, sequence_len, cut_text};
+ghost use Rattle.ncc_pack.specs.Reading.{Gives, number_at, size_at, bytes_at, text_at, id_at, key_at, label_at, tag_at, other_kind};
+ghost use Rattle.ncc_pack.specs.Reading.{sequence_len, cut_text};
 
 use crate::bytes::Bytes;
 use crate::error::PackError;
-use crate::mark::{Mark, Size, mark_of};
+use crate::limits::MAX_SIZE;
+use crate::mark::{Mark, NODE_TAG, Size, mark_of};
 use crate::text::Text;
 use crate::value::Value;
 use std::alloc::Global;
 use std::str;
-
-const MAX_SIZE: u32 = 16_777_216;
 
 pub(crate) fn u8_at(bytes: &[u8]) -> Result<(u8, &[u8]), PackError>
     ensures { Gives (λ x. (x.0, x.1.now)) result (number_at w8 bytes.now) }
@@ -87,7 +87,7 @@ pub(crate) fn size_of(at: u64, size: Size, bytes: &[u8]) -> Result<(usize, &[u8]
             Ok((n as usize, rest))
         }
         Size::Four => {
-            if first_four(bytes) > MAX_SIZE {
+            if first_four(bytes) as usize > MAX_SIZE {
                 return Err(PackError::TooLong { at });
             }
             let (n, rest) = u32_at(bytes)?;
@@ -261,7 +261,7 @@ pub(crate) fn behind_tag(total: usize, bytes: &[u8]) -> Result<&[u8], PackError>
     let at = total.saturating_sub(bytes.len()) as u64;
     match bytes {
         [] => Err(PackError::Short),
-        [0x4E, rest @ ..] => Ok(rest),
+        [NODE_TAG, rest @ ..] => Ok(rest),
         _ => Err(PackError::BadMarker { at }),
     }
 }

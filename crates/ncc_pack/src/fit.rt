@@ -6,17 +6,14 @@ ghost use Rattle.std.specs.Str.{bytes_eq};
 ghost use Rattle.ncc_pack.specs.Keys.{distinct, keys};
 ghost use Rattle.ncc_pack.specs.Fits.{fit, fit_pair, fits, fits_i64, fits_text, fits_list, fits_dict, fits_labels, fits_node, fits_within};
 
+use crate::limits::{MAX_DEPTH, MAX_SIZE};
 use crate::text::Text;
 use crate::value::{Dict, NodeValue, Value, Values};
 use std::alloc::AllocError;
 use std::collections::BTreeSet;
 
-const MAX_SIZE: usize = 16_777_216;
-
-pub(crate) const MAX_DEPTH: u8 = 32;
-
 // Up to so many pairs, a search through the earlier keys is faster than a set.
-const FEW: usize = 8;
+pub(crate) const FEW: usize = 8;
 
 // Every integer fits.
 fn int_fits(number: i64) -> bool
@@ -34,7 +31,7 @@ pub(crate) fn text_fits(text: &Text) -> bool
 }
 
 /// Says whether one of the pairs has this key.
-fn has_key(pairs: &[(Text, Value)], key: &str) -> bool
+pub(crate) fn has_key(pairs: &[(Text, Value)], key: &str) -> bool
     ensures { result ≡ list_any (bytes_eq key.now) (keys pairs.now) }
 {
     for pair in pairs {
@@ -187,7 +184,7 @@ impl Value {
     /// lists, dictionaries and nodes nest at most 32 deep (a node takes two levels, for its labels), no dictionary has a
     /// key twice, and labels are texts.
     pub fn fits(&self) -> bool
-        ensures { result ≡ fits self.now }
+        ensures exact { result ≡ fits self.now }
     {
         value_fits(self, MAX_DEPTH)
     }

@@ -3,32 +3,38 @@
 
 mod alone;
 mod bytes;
+mod element;
+mod encoding;
 mod error;
 mod field;
 mod fit;
+mod law;
+mod limits;
 mod mark;
 mod read;
+mod roomy;
 mod sequence;
 mod size;
-#[cfg(test)]
-mod tests;
 mod text;
 mod value;
-mod words;
 mod write;
 
 pub use alone::{
-    dict_fits, dict_fits_within, dict_len, encode_dict, encode_list_head, encode_text,
-    encode_values, fits_deeper, list_head_len, spelled_fits, text_fits, text_len, values_fit,
-    values_fit_within, values_len,
+    dict_fits, dict_fits_within, dict_len, fits_deeper, list_head_len, spelled_fits, text_fits,
+    text_len, values_fit, values_fit_within, values_len,
 };
 pub use bytes::Bytes;
+pub use element::{Compared, Copied};
+pub use encoding::{
+    encode, encode_dict, encode_dict_within, encode_list_head, encode_list_head_within,
+    encode_text, encode_text_within, encode_values, encode_values_within, encode_within,
+};
 pub use error::PackError;
+pub use law::{placed_refusals, short_refusals, shortest};
 pub use read::{decode, decode_at, one_form};
+pub use roomy::Roomy;
 pub use sequence::Sequence;
 pub use size::short_len;
 pub use std::alloc::AllocError as Memory;
-pub use text::Text;
-pub use value::{Dict, NodeValue, Value, Values, copy_dict, copy_values};
-pub use words::Words;
-pub use write::encode;
+pub use text::{Text, Words};
+pub use value::{Dict, NodeValue, Rows, Value, Values};

@@ -14,17 +14,14 @@ use crate::field::{
     behind_tag, bytes_of, id_of, key_of, label_of, other_kind, size_of, text_of, u8_at, u16_at,
     u32_at, u64_at,
 };
+use crate::fit::{FEW, has_key};
+use crate::limits::MAX_DEPTH;
 use crate::mark::{Mark, Size, mark_of};
-use crate::sequence::Sequence;
+use crate::roomy::Roomy;
 use crate::text::Text;
 use crate::value::{Dict, NodeValue, Value, Values};
 use std::alloc::Global;
 use std::collections::BTreeSet;
-
-const MAX_DEPTH: u8 = 32;
-
-/// How many elements a list gets room for before its first one is read: few, whatever its size says.
-const FEW: usize = 16;
 
 /// The labels of a node: a list of texts alone.
 #[tactic(auto, unfolding(crate::specs::Reading::labels_at))]
@@ -50,14 +47,14 @@ fn label_items(
 ) -> Result<(Values, &[u8]), PackError>
     ensures { Gives (λ x. (x.0, x.1.now)) result (items_at (label_at total) count bytes.now) }
 {
-    let mut labels = Sequence::with_capacity(alloc, count.min(FEW))?;
+    let mut labels = Roomy::ahead(alloc, count)?;
     let mut rest = bytes;
     for _ in 0..count {
         let (label, after) = label_of(alloc, total, rest)?;
         labels.push(label)?;
         rest = after;
     }
-    Ok((labels, rest))
+    Ok((labels.into_sequence(), rest))
 }
 
 #[cycle(reading)]
@@ -70,14 +67,14 @@ fn items_of(
 ) -> Result<(Values, &[u8]), PackError>
     ensures { Gives (λ x. (x.0, x.1.now)) result (items_at (value_at total depth) count bytes.now) }
 {
-    let mut items = Sequence::with_capacity(alloc, count.min(FEW))?;
+    let mut items = Roomy::ahead(alloc, count)?;
     let mut rest = bytes;
     for _ in 0..count {
         let (item, after) = value_of(alloc, total, depth, rest)?;
         items.push(item)?;
         rest = after;
     }
-    Ok((items, rest))
+    Ok((items.into_sequence(), rest))
 }
 
 #[cycle(reading)]
@@ -90,8 +87,51 @@ fn pairs_of(
 ) -> Result<(Dict, &[u8]), PackError>
     ensures { Gives (λ x. (x.0, x.1.now)) result (pairs_at total (value_at total depth) [] count bytes.now) }
 {
+    if count <= FEW {
+        return few_pairs_of(alloc, total, depth, count, bytes);
+    }
+    many_pairs_of(alloc, total, depth, count, bytes)
+}
+
+// A key that came before is found by a search through the earlier ones.
+#[cycle(reading)]
+fn few_pairs_of(
+    alloc: Global,
+    total: usize,
+    depth: u8,
+    count: usize,
+    bytes: &[u8],
+) -> Result<(Dict, &[u8]), PackError>
+    ensures { Gives (λ x. (x.0, x.1.now)) result (pairs_at total (value_at total depth) [] count bytes.now) }
+{
+    let mut pairs = Roomy::ahead(alloc, count)?;
+    let mut rest = bytes;
+    for _ in 0..count {
+        let at = total.saturating_sub(rest.len()) as u64;
+        let (key, after) = key_of(total, rest)?;
+        if has_key(pairs.as_slice(), key) {
+            return Err(PackError::RepeatedKey { at });
+        }
+        let (value, after) = value_of(alloc, total, depth, after)?;
+        pairs.push((Text::from_str(alloc, key)?, value))?;
+        rest = after;
+    }
+    Ok((pairs.into_sequence(), rest))
+}
+
+// A key that came before is found in a set of the earlier ones.
+#[cycle(reading)]
+fn many_pairs_of(
+    alloc: Global,
+    total: usize,
+    depth: u8,
+    count: usize,
+    bytes: &[u8],
+) -> Result<(Dict, &[u8]), PackError>
+    ensures { Gives (λ x. (x.0, x.1.now)) result (pairs_at total (value_at total depth) [] count bytes.now) }
+{
     let mut seen: BTreeSet<&str> = BTreeSet::new(alloc);
-    let mut pairs = Sequence::with_capacity(alloc, count.min(FEW))?;
+    let mut pairs = Roomy::ahead(alloc, count)?;
     let mut rest = bytes;
     for _ in 0..count {
         let at = total.saturating_sub(rest.len()) as u64;
@@ -103,7 +143,7 @@ fn pairs_of(
         pairs.push((Text::from_str(alloc, key)?, value))?;
         rest = after;
     }
-    Ok((pairs, rest))
+    Ok((pairs.into_sequence(), rest))
 }
 
 #[cycle(reading)]
@@ -264,9 +304,11 @@ pub fn decode(alloc: Global, bytes: &[u8]) -> Result<(Value, usize), PackError>
     // What is read is spelled so.
     ensures found { IfOk result (λ r. (r.1 ≤ length bytes.now) × spells r.0 (take r.1 bytes.now)) }
     // What is spelled so is read, whatever follows, unless memory runs out.
-    ensures only { (x : Value) (b rest : List ℕ) → spells x b → bytes.now ≡ b ++ rest → Gives {Y = Value × ℕ} (λ r. r) result (Ok (x, length b)) }
+    ensures only { (x : Value) (b rest : List ℕ) → spells x b → bytes.now ≡ b ++ rest
+        → Gives {Y = Value × ℕ} (λ r. r) result (Ok (x, length b)) }
     // What was written is read again, whatever follows.
-    ensures again { (x : Value) (rest : List ℕ) → IsTrue (fits x) → bytes.now ≡ short x ++ rest → Gives {Y = Value × ℕ} (λ r. r) result (Ok (x, length (short x))) }
+    ensures again { (x : Value) (rest : List ℕ) → IsTrue (fits x) → bytes.now ≡ short x ++ rest
+        → Gives {Y = Value × ℕ} (λ r. r) result (Ok (x, length (short x))) }
     // A refusal is the first fault that stands in the bytes.
     ensures exact { Gives (λ r. (r.0, drop r.1 bytes.now)) result (read_value bytes.now) }
 {
@@ -281,7 +323,8 @@ pub fn decode_at(alloc: Global, bytes: &[u8], at: usize) -> Result<(Value, usize
     // What is read is spelled so.
     ensures found { IfOk result (λ r. (at + r.1 ≤ length bytes.now) × spells r.0 (take r.1 (drop at bytes.now))) }
     // What is spelled so is read, whatever follows, unless memory runs out.
-    ensures only { (x : Value) (b rest : List ℕ) → spells x b → drop at bytes.now ≡ b ++ rest → Gives {Y = Value × ℕ} (λ r. r) result (Ok (x, length b)) }
+    ensures only { (x : Value) (b rest : List ℕ) → spells x b → drop at bytes.now ≡ b ++ rest
+        → Gives {Y = Value × ℕ} (λ r. r) result (Ok (x, length b)) }
     // A refusal is the first fault that stands in the bytes.
     ensures exact { Gives (λ r. (r.0, drop (at + r.1) bytes.now)) result (value_at (length bytes.now) max_depth (drop at bytes.now)) }
 {
@@ -292,5 +335,5 @@ pub fn decode_at(alloc: Global, bytes: &[u8], at: usize) -> Result<(Value, usize
 
 /// No spelling begins another.
 pub fn one_form()
-    ensures { (x y : Value) (a b r s : List ℕ) → spells x a → spells y b → a ++ r ≡ b ++ s → (x ≡ y) × (a ≡ b) }
+    ensures one { (x y : Value) (a b r s : List ℕ) → spells x a → spells y b → a ++ r ≡ b ++ s → (x ≡ y) × (a ≡ b) }
 {}

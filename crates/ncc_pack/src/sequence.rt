@@ -2,6 +2,7 @@
 
 ghost use Rattle.std.specs.Prelude.{◌≡◌, ◌++◌, ◌∷◌, [], length, IfOk, OnOk, OnErr, IsTrue, ◌↔◌};
 
+use crate::element::{Compared, Copied};
 use std::alloc::{AllocError, Global};
 use std::marker::Model;
 
@@ -34,7 +35,7 @@ impl<T> Sequence<T> {
 
     /// No elements, with room for so many.
     pub fn with_capacity(alloc: Global, capacity: usize) -> Result<Sequence<T>, AllocError>
-        ensures { IfOk result (λ s. s ≡ []) }
+        ensures empty { IfOk result (λ s. s ≡ []) }
     {
         let inner = Vec::with_capacity(alloc, capacity)?;
         Ok(Sequence { inner })
@@ -42,14 +43,14 @@ impl<T> Sequence<T> {
 
     /// The elements of a `Vec`. It takes no memory.
     pub fn from_vec(inner: Vec<T>) -> Sequence<T>
-        ensures { result ≡ inner.items }
+        ensures same { result ≡ inner.items }
     {
         Sequence { inner }
     }
 
     /// The elements as a `Vec`. It takes no memory.
     pub fn into_vec(self) -> Vec<T>
-        ensures { result.items ≡ self }
+        ensures same { result.items ≡ self }
     {
         let Sequence { inner } = self;
         inner
@@ -90,5 +91,48 @@ impl<T: Drop> Sequence<T> {
     {
         self.inner.push(item)?;
         Ok(())
+    }
+}
+
+impl<T: Copied> Sequence<T> {
+    /// An equal list, on the same allocator.
+    pub fn copy(&self) -> Result<Sequence<T>, AllocError>
+        ensures equal { IfOk result (λ copy. copy ≡ self.now) }
+    {
+        let mut copy = Sequence::with_capacity(self.allocator(), self.len())?;
+        for item in self.as_slice() {
+            copy.push(item.copy()?)?;
+        }
+        Ok(copy)
+    }
+}
+
+impl<T: Copied> Copied for Sequence<T> {
+    fn copy(&self) -> Result<Sequence<T>, AllocError> {
+        Sequence::copy(self)
+    }
+}
+
+impl<T: Compared> Sequence<T> {
+    /// Says whether two lists are equal: as long, and equal item by item. It takes no memory.
+    pub fn equals(&self, other: &Sequence<T>) -> bool
+        ensures exact { IsTrue result ↔ (self.now ≡ other.now) }
+    {
+        if self.len() != other.len() {
+            return false;
+        }
+        let others = other.as_slice();
+        for (i, item) in self.as_slice().iter().enumerate() {
+            if !item.equals(&others[i]) {
+                return false;
+            }
+        }
+        true
+    }
+}
+
+impl<T: Compared> Compared for Sequence<T> {
+    fn equals(&self, other: &Sequence<T>) -> bool {
+        Sequence::equals(self, other)
     }
 }

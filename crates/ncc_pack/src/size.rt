@@ -128,7 +128,7 @@ fn value_len(value: &Value) -> u64
 #[tactic(auto, using(crate::proofs::Loops::whole_value))]
 pub fn short_len(value: &Value) -> u64
     requires { IsTrue (fits value.now) }
-    ensures { result ≡ min (length (short value.now)) (2 ^ 64 - 1) }
+    ensures length { result ≡ min (length (short value.now)) (2 ^ 64 - 1) }
 {
     value_len(value)
 }

@@ -2,6 +2,8 @@
 
 ghost use Rattle.std.specs.Prelude.{◌≡◌, ◌++◌, [], length, IfOk, OnOk, OnErr, IsTrue, ◌↔◌};
 
+use crate::element::{Compared, Copied};
+use crate::sequence::Sequence;
 use std::alloc::{AllocError, Global};
 use std::marker::Model;
 
@@ -10,6 +12,9 @@ use std::marker::Model;
 pub struct Text {
     inner: String,
 }
+
+/// A list of texts, such as the arguments of a program. A contract sees the list of their bytes.
+pub type Words = Sequence<Text>;
 
 impl Model for Text {
     ghost use Rattle.std.specs.Prelude.{List, ℕ};
@@ -32,7 +37,7 @@ impl Text {
 
     /// A copy of this text.
     pub fn from_str(alloc: Global, text: &str) -> Result<Text, AllocError>
-        ensures { IfOk result (λ t. t ≡ text.now) }
+        ensures same { IfOk result (λ t. t ≡ text.now) }
     {
         let inner = String::from_str(alloc, text)?;
         Ok(Text { inner })
@@ -69,8 +74,26 @@ impl Text {
 
     /// An equal value, on the same allocator.
     pub fn copy(&self) -> Result<Text, AllocError>
-        ensures { IfOk result (λ t. t ≡ self.now) }
+        ensures equal { IfOk result (λ t. t ≡ self.now) }
     {
         Text::from_str(*self.inner.allocator(), self.as_str())
+    }
+    /// Says whether two are equal. It takes no memory.
+    pub fn equals(&self, other: &Text) -> bool
+        ensures exact { IsTrue result ↔ (self.now ≡ other.now) }
+    {
+        self.as_str() == other.as_str()
+    }
+}
+
+impl Copied for Text {
+    fn copy(&self) -> Result<Text, AllocError> {
+        Text::copy(self)
+    }
+}
+
+impl Compared for Text {
+    fn equals(&self, other: &Text) -> bool {
+        Text::equals(self, other)
     }
 }

@@ -1,8 +1,12 @@
 //! Values of PackStream.
 
-ghost use Rattle.std.specs.Prelude.{◌≡◌, IfOk};
+ghost use Rattle.std.specs.Prelude.{◌≡◌, ◌↔◌, IfOk, IsTrue};
+ghost use Rattle.std.specs.Map.{lookup};
+ghost use Rattle.std.specs.Option.{option_copied};
+ghost use Rattle.std.specs.Str.{bytes_eq};
 
 use crate::bytes::Bytes;
+use crate::element::{Compared, Copied};
 use crate::sequence::Sequence;
 use crate::text::Text;
 use std::alloc::AllocError;
@@ -47,24 +51,40 @@ pub struct NodeValue {
     pub props: Dict,
 }
 
-/// An equal list, on the same allocator.
+/// The rows of an answer, each a list of values. A contract sees the list of them.
+pub type Rows = Sequence<Values>;
+
+impl Sequence<(Text, Value)> {
+    /// The value at a key: that of the first pair that has the key. It takes a time that grows with the number of pairs,
+    /// and no memory.
+    pub fn get(&self, key: &str) -> Option<&Value>
+        ensures found { option_copied result ≡ lookup (bytes_eq key.now) self.now }
+    {
+        for pair in self.as_slice() {
+            if pair.0.as_str() == key {
+                return Some(&pair.1);
+            }
+        }
+        None
+    }
+}
+
 #[cycle(copies)]
-pub fn copy_values(values: &Values) -> Result<Values, AllocError>
+fn copied_values(values: &Values) -> Result<Values, AllocError>
     ensures { IfOk result (λ copy. copy ≡ values.now) }
 {
-    let mut copy = Sequence::new(values.allocator());
+    let mut copy = Sequence::with_capacity(values.allocator(), values.len())?;
     for value in values.as_slice() {
         copy.push(value.copy()?)?;
     }
     Ok(copy)
 }
 
-/// An equal dictionary, on the same allocator.
 #[cycle(copies)]
-pub fn copy_dict(dict: &Dict) -> Result<Dict, AllocError>
+fn copied_dict(dict: &Dict) -> Result<Dict, AllocError>
     ensures { IfOk result (λ copy. copy ≡ dict.now) }
 {
-    let mut copy = Sequence::new(dict.allocator());
+    let mut copy = Sequence::with_capacity(dict.allocator(), dict.len())?;
     for pair in dict.as_slice() {
         let key = pair.0.copy()?;
         let value = pair.1.copy()?;
@@ -74,16 +94,26 @@ pub fn copy_dict(dict: &Dict) -> Result<Dict, AllocError>
 }
 
 impl NodeValue {
-    /// An equal node, on the same allocator.
+    /// An equal node, on the same allocators.
     #[cycle(copies)]
     pub fn copy(&self) -> Result<NodeValue, AllocError>
-        ensures { IfOk result (λ copy. copy ≡ self.now) }
+        ensures equal { IfOk result (λ copy. copy ≡ self.now) }
     {
         Ok(NodeValue {
             id: self.id,
-            labels: copy_values(&self.labels)?,
-            props: copy_dict(&self.props)?,
+            labels: copied_values(&self.labels)?,
+            props: copied_dict(&self.props)?,
         })
+    }
+
+    /// Says whether two nodes are equal. It takes no memory.
+    #[cycle(comparing)]
+    pub fn equals(&self, other: &NodeValue) -> bool
+        ensures exact { IsTrue result ↔ (self.now ≡ other.now) }
+    {
+        self.id == other.id
+            && equal_values(&self.labels, &other.labels)
+            && equal_dicts(&self.props, &other.props)
     }
 }
 
@@ -91,7 +121,7 @@ impl Value {
     /// An equal value, on the same allocators.
     #[cycle(copies)]
     pub fn copy(&self) -> Result<Value, AllocError>
-        ensures { IfOk result (λ copy. copy ≡ self.now) }
+        ensures equal { IfOk result (λ copy. copy ≡ self.now) }
     {
         match self {
             Value::Null => Ok(Value::Null),
@@ -99,9 +129,83 @@ impl Value {
             Value::Int(number) => Ok(Value::Int(*number)),
             Value::Bytes(bytes) => Ok(Value::Bytes(bytes.copy()?)),
             Value::Text(text) => Ok(Value::Text(text.copy()?)),
-            Value::List(values) => Ok(Value::List(copy_values(values)?)),
-            Value::Dict(dict) => Ok(Value::Dict(copy_dict(dict)?)),
+            Value::List(values) => Ok(Value::List(copied_values(values)?)),
+            Value::Dict(dict) => Ok(Value::Dict(copied_dict(dict)?)),
             Value::Node(node) => Ok(Value::Node(node.copy()?)),
         }
+    }
+
+    /// Says whether two values are equal: of one kind, and equal item by item in their order. It takes no memory.
+    #[cycle(comparing)]
+    pub fn equals(&self, other: &Value) -> bool
+        ensures exact { IsTrue result ↔ (self.now ≡ other.now) }
+    {
+        match (self, other) {
+            (Value::Null, Value::Null) => true,
+            (Value::Bool(a), Value::Bool(b)) => a == b,
+            (Value::Int(a), Value::Int(b)) => a == b,
+            (Value::Bytes(a), Value::Bytes(b)) => a.as_slice() == b.as_slice(),
+            (Value::Text(a), Value::Text(b)) => a.as_str() == b.as_str(),
+            (Value::List(a), Value::List(b)) => equal_values(a, b),
+            (Value::Dict(a), Value::Dict(b)) => equal_dicts(a, b),
+            (Value::Node(a), Value::Node(b)) => a.equals(b),
+            _ => false,
+        }
+    }
+}
+
+#[cycle(comparing)]
+fn equal_values(values: &Values, other: &Values) -> bool
+    ensures { IsTrue result ↔ (values.now ≡ other.now) }
+{
+    if values.len() != other.len() {
+        return false;
+    }
+    let others = other.as_slice();
+    for (i, value) in values.as_slice().iter().enumerate() {
+        if !value.equals(&others[i]) {
+            return false;
+        }
+    }
+    true
+}
+
+#[cycle(comparing)]
+fn equal_dicts(dict: &Dict, other: &Dict) -> bool
+    ensures { IsTrue result ↔ (dict.now ≡ other.now) }
+{
+    if dict.len() != other.len() {
+        return false;
+    }
+    let others = other.as_slice();
+    for (i, pair) in dict.as_slice().iter().enumerate() {
+        if pair.0.as_str() != others[i].0.as_str() || !pair.1.equals(&others[i].1) {
+            return false;
+        }
+    }
+    true
+}
+
+impl Copied for NodeValue {
+    fn copy(&self) -> Result<NodeValue, AllocError> {
+        NodeValue::copy(self)
+    }
+}
+
+impl Copied for Value {
+    fn copy(&self) -> Result<Value, AllocError> {
+        Value::copy(self)
+    }
+}
+
+impl Compared for NodeValue {
+    fn equals(&self, other: &NodeValue) -> bool {
+        NodeValue::equals(self, other)
+    }
+}
+
+impl Compared for Value {
+    fn equals(&self, other: &Value) -> bool {
+        Value::equals(self, other)
     }
 }

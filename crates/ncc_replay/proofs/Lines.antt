@@ -1,12 +1,14 @@
 -- What the words of a line say, and that they say one event at most.
-use Rattle.std.proofs.Common.{◌≡◌, ◌≢◌, ℕ, ◌<◌, ◌≤◌, ◌^◌, true, false, cond, ◌==◌, List, [], ◌∷◌, ◌++◌, length, drop, refl, sym, ap, ◌∙◌, arith, codes, decimal, get_or}
+use Rattle.std.proofs.Common.{◌≡◌, ◌≢◌, ℕ, ◌<◌, ◌≤◌, ◌^◌, true, false, cond, ◌==◌, List, [], ◌∷◌, ◌++◌, length, drop, refl, sym, ap}
+use Rattle.std.proofs.Common.{◌∙◌, arith, codes, decimal, get_or}
 use Rattle.std.specs.List.{AllByRecursion, join_with_byte}
 use Rattle.std.proofs.lemmas.Fmt.{decimal_injective}
 use Rattle.std.proofs.lemmas.List.Elements.{All-from_recursion, All-head, All-tail}
 use Rattle.ncc_bookmark.specs.Point.{Point, Fits}
 use Rattle.ncc_bookmark.specs.Spelling.{text_of}
 use Rattle.ncc_bookmark.proofs.Texts.{point_of_text}
-use Rattle.ncc_replay.specs.Line.{AreOf, bookmark_words, Spellable, words_of, Says, IsSetup, setup_words, SaysCluster, is_word, first_word, is_verb}
+use Rattle.ncc_replay.specs.Line.{AreOf, bookmark_words, Spellable, words_of, Says, IsSetup, setup_words, SaysCluster, is_word}
+use Rattle.ncc_replay.specs.Line.{first_word, is_verb}
 use Rattle.ncc_replay.specs.Reading.{words_between, AreWords, IsBookmark, AreSetup, verb_word}
 use Rattle.ncc_replay.proofs.Words.{NoSpace, words-join, join-words, decimal_no_space, word_no_space, text_no_space}
 use Rattle.ncc_replay.specs.declared.event.Event.{Event}
@@ -42,8 +44,10 @@ words_no_space cluster (Get member key bs) h = (
     (word_no_space key h.1, bookmark_words_no_space bs),
   ),
 )
-words_no_space cluster (Apply member count) h =
-    (literal (codes "apply") (refl, (refl, (refl, (refl, (refl, tt))))), (decimal_no_space member (omega (arith, h.0)), (decimal_no_space count h.2, tt)))
+words_no_space cluster (Apply member count) h = (
+  literal (codes "apply") (refl, (refl, (refl, (refl, (refl, tt))))),
+  (decimal_no_space member (omega (arith, h.0)), (decimal_no_space count h.2, tt)),
+)
 
 words_nonempty : (e : Event) → 0 < length (words_of e)
 words_nonempty (Time to) = omega arith
@@ -139,7 +143,10 @@ says_one cluster line a b f g =
 setup_one : (a b : Setup) → IsSetup a → IsSetup b → setup_words a ≡ setup_words b → a ≡ b
 setup_one a b f g e =
     let cores : a.cores ≡ b.cores = decimal_injective a.cores b.cores (omega (arith, f.cores)) (omega (arith, g.cores)) (cc) in
-    let replicas : a.replicas ≡ b.replicas = decimal_injective a.replicas b.replicas (omega (arith, f.replicas)) (omega (arith, g.replicas)) (cc) in
+    let replicas : a.replicas ≡ b.replicas = decimal_injective a.replicas b.replicas (omega (arith, f.replicas)) (omega (
+      arith,
+      g.replicas,
+    )) (cc) in
     let clusters : a.cluster ≡ b.cluster = decimal_injective a.cluster b.cluster f.cluster g.cluster (cc) in
     let waits : a.wait ≡ b.wait = decimal_injective a.wait b.wait (omega (arith, f.wait)) (omega (arith, g.wait)) (cc) in
     let made : ℕ → ℕ → ℕ → ℕ → Setup = λ c r i w. record { cores = c; replicas = r; cluster = i; wait = w } in
@@ -154,7 +161,8 @@ says_one_cluster line a b f g =
 -- why a line says nothing
 
 -- a word that is no bookmark stands in no list of them
-pub bad_bookmark : (cluster : ℕ) (ps qs : List Point) (w : List ℕ) (ws : List (List ℕ)) → ((b : Point) → ¬ (IsBookmark cluster w b)) → AreOf cluster qs → bookmark_words qs ≢ bookmark_words ps ++ w ∷ ws
+pub bad_bookmark : (cluster : ℕ) (ps qs : List Point) (w : List ℕ) (ws : List (List ℕ)) →
+    ((b : Point) → ¬ (IsBookmark cluster w b)) → AreOf cluster qs → bookmark_words qs ≢ bookmark_words ps ++ w ∷ ws
 bad_bookmark cluster [] [] w ws none f e = cc
 bad_bookmark cluster [] (q ∷ qs) w ws none f e =
     let first = All-head (λ b. Fits b × (b.cluster ≡ cluster)) q qs f in
@@ -164,25 +172,31 @@ bad_bookmark cluster (p ∷ ps) (q ∷ qs) w ws none f e =
     bad_bookmark cluster ps qs w ws none (All-tail (λ b. Fits b × (b.cluster ≡ cluster)) q qs f) (cc)
 
 -- a line that begins with `time` can say nothing but a `time`, and so for each verb
-pub time_bad : (words : List (List ℕ)) → ((to : ℕ) → to < 2 ^ 64 → words ≢ decimal to ∷ []) → (cluster : ℕ) (e : Event) → ¬ (AreWords cluster (codes "time" ∷ words) e)
+pub time_bad : (words : List (List ℕ)) → ((to : ℕ) → to < 2 ^ 64 → words ≢ decimal to ∷ []) → (cluster : ℕ) (e : Event) →
+    ¬ (AreWords cluster (codes "time" ∷ words) e)
 time_bad words none cluster (Time to) h = none to h.0 (ap (drop 1) h.1)
 time_bad words none cluster (Put member key value bs) h = omega (arith, ap first_byte h.1)
 time_bad words none cluster (Get member key bs) h = omega (arith, ap first_byte h.1)
 time_bad words none cluster (Apply member count) h = omega (arith, ap first_byte h.1)
 
-pub put_bad : (cluster : ℕ) (words : List (List ℕ)) → ((member : ℕ) (key value : List ℕ) (bs : List Point) → member < 2 ^ 8 → is_word key ≡ true → is_word value ≡ true → AreOf cluster bs → words ≢ decimal member ∷ key ∷ value ∷ bookmark_words bs) → (e : Event) → ¬ (AreWords cluster (codes "put" ∷ words) e)
+pub put_bad : (cluster : ℕ) (words : List (List ℕ)) → ((member : ℕ) (key value : List ℕ) (bs : List Point) → member < 2 ^ 8 →
+    is_word key ≡ true → is_word value ≡ true → AreOf cluster bs → words ≢ decimal member ∷ key ∷ value ∷ bookmark_words bs) →
+    (e : Event) → ¬ (AreWords cluster (codes "put" ∷ words) e)
 put_bad cluster words none (Put member key value bs) h = none member key value bs h.0.0 h.0.1 h.0.2 h.0.3 (ap (drop 1) h.1)
 put_bad cluster words none (Time to) h = omega (arith, ap first_byte h.1)
 put_bad cluster words none (Get member key bs) h = omega (arith, ap first_byte h.1)
 put_bad cluster words none (Apply member count) h = omega (arith, ap first_byte h.1)
 
-pub get_bad : (cluster : ℕ) (words : List (List ℕ)) → ((member : ℕ) (key : List ℕ) (bs : List Point) → member < 2 ^ 8 → is_word key ≡ true → AreOf cluster bs → words ≢ decimal member ∷ key ∷ bookmark_words bs) → (e : Event) → ¬ (AreWords cluster (codes "get" ∷ words) e)
+pub get_bad : (cluster : ℕ) (words : List (List ℕ)) → ((member : ℕ) (key : List ℕ) (bs : List Point) → member < 2 ^ 8 →
+    is_word key ≡ true → AreOf cluster bs → words ≢ decimal member ∷ key ∷ bookmark_words bs) → (e : Event) →
+    ¬ (AreWords cluster (codes "get" ∷ words) e)
 get_bad cluster words none (Get member key bs) h = none member key bs h.0.0 h.0.1 h.0.2 (ap (drop 1) h.1)
 get_bad cluster words none (Time to) h = omega (arith, ap first_byte h.1)
 get_bad cluster words none (Put member key value bs) h = omega (arith, ap first_byte h.1)
 get_bad cluster words none (Apply member count) h = omega (arith, ap first_byte h.1)
 
-pub apply_bad : (words : List (List ℕ)) → ((member count : ℕ) → member < 2 ^ 8 → 1 ≤ count → count < 2 ^ 64 → words ≢ decimal member ∷ decimal count ∷ []) → (cluster : ℕ) (e : Event) → ¬ (AreWords cluster (codes "apply" ∷ words) e)
+pub apply_bad : (words : List (List ℕ)) → ((member count : ℕ) → member < 2 ^ 8 → 1 ≤ count → count < 2 ^ 64 →
+    words ≢ decimal member ∷ decimal count ∷ []) → (cluster : ℕ) (e : Event) → ¬ (AreWords cluster (codes "apply" ∷ words) e)
 apply_bad words none cluster (Apply member count) h = none member count h.0.0 h.0.1 h.0.2 (ap (drop 1) h.1)
 apply_bad words none cluster (Time to) h = omega (arith, ap first_byte h.1)
 apply_bad words none cluster (Put member key value bs) h = omega (arith, ap first_byte h.1)
@@ -194,8 +208,11 @@ cluster_bad words cluster (Put member key value bs) h = omega (arith, ap first_b
 cluster_bad words cluster (Get member key bs) h = omega (arith, ap first_byte h.1)
 cluster_bad words cluster (Apply member count) h = omega (arith, ap first_byte h.1)
 
-pub setup_bad : (words : List (List ℕ)) → ((cores replicas cluster wait : ℕ) → 1 ≤ cores → cores ≤ 7 → replicas ≤ 16 → cluster < 2 ^ 64 → wait ≤ 86400000 → words ≢ decimal cores ∷ decimal replicas ∷ decimal cluster ∷ decimal wait ∷ []) → (s : Setup) → ¬ (AreSetup (codes "cluster" ∷ codes "list" ∷ words) s)
-setup_bad words none s h = none s.cores s.replicas s.cluster s.wait h.0.cores.0 h.0.cores.1 h.0.replicas h.0.cluster h.0.wait (ap (drop 2) h.1)
+pub setup_bad : (words : List (List ℕ)) → ((cores replicas cluster wait : ℕ) → 1 ≤ cores → cores ≤ 7 → replicas ≤ 16 →
+    cluster < 2 ^ 64 → wait ≤ 86400000 → words ≢ decimal cores ∷ decimal replicas ∷ decimal cluster ∷ decimal wait ∷ []) →
+    (s : Setup) → ¬ (AreSetup (codes "cluster" ∷ codes "list" ∷ words) s)
+setup_bad words none s h = none s.cores s.replicas s.cluster s.wait h.0.cores.0 h.0.cores.1 h.0.replicas h.0.cluster h.0.wait
+    (ap (drop 2) h.1)
 
 -- the cause of a bad line whose verb is known
 

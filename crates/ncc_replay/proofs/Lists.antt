@@ -1,5 +1,6 @@
 -- Lists: what holds of each element, prefixes, and the parts round an element.
-use Rattle.std.proofs.Common.{◌≡◌, ℕ, zero, suc, ◌<◌, ◌≤◌, List, [], ◌∷◌, ◌++◌, length, take, drop, Some, refl, ap, sym, ◌∙◌, arith, append_assoc, length-append, subst, inl, inr, ◌⊎◌, get_or}
+use Rattle.std.proofs.Common.{◌≡◌, ℕ, zero, suc, ◌<◌, ◌≤◌, List, [], ◌∷◌, ◌++◌, length, take, drop, Some, refl, ap, sym, ◌∙◌, arith}
+use Rattle.std.proofs.Common.{append_assoc, length-append, subst, inl, inr, ◌⊎◌, get_or}
 use Rattle.std.proofs.lemmas.List.{take-append-le, append-nil, take_at, drop_at}
 use Rattle.std.specs.Prelude.{slice_get, slice_set}
 use Rattle.std.specs.List.{AllByRecursion}
@@ -60,11 +61,15 @@ pub get_begins : {X : Type 0} (xs ys : List X) (i : ℕ) (x : X) → Begins xs y
 get_begins xs ys i x f e = let P : List _ → Type 0 = λ l. slice_get l i ≡ Some x in subst P f.1 (get_append xs f.0 i x e)
 
 -- an element of a list with one more at its end: one of the list, or the last
-pub get_push_cases : {X : Type 0} (xs : List X) (y : X) (i : ℕ) (x : X) → slice_get (xs ++ (y ∷ [])) i ≡ Some x → (slice_get xs i ≡ Some x × (i < length xs)) ⊎ ((i ≡ length xs) × (y ≡ x))
+pub get_push_cases : {X : Type 0} (xs : List X) (y : X) (i : ℕ) (x : X) → slice_get (xs ++ (y ∷ [])) i ≡ Some x →
+    (slice_get xs i ≡ Some x × (i < length xs)) ⊎ ((i ≡ length xs) × (y ≡ x))
 get_push_cases [] y zero x e = inr (refl, cc)
 get_push_cases [] y (suc i) x e = absurd (cc)
 get_push_cases (z ∷ xs) y zero x e = inl (e, omega arith)
-get_push_cases (z ∷ xs) y (suc i) x e = elim (get_push_cases xs y i x e) [ inl h ↦ inl (h.0, omega (arith, h.1)) | inr h ↦ inr (omega (arith, h.0), h.1) ]
+get_push_cases (z ∷ xs) y (suc i) x e = elim (get_push_cases xs y i x e) [
+  | inl h ↦ inl (h.0, omega (arith, h.1))
+  | inr h ↦ inr (omega (arith, h.0), h.1)
+]
 
 pub take_begins : {X : Type 0} (n : ℕ) (xs ys : List X) → n ≤ length xs → Begins xs ys → take n ys ≡ take n xs
 take_begins n xs ys h f = sym (ap (take n) f.1) ∙ take-append-le n xs f.0 h
@@ -80,7 +85,8 @@ all_set P (y ∷ ys) zero x h p = (p, h.1)
 all_set P (y ∷ ys) (suc i) x h p = (h.0, all_set P ys i x h.1 p)
 
 -- a list of lists in which one list grows
-pub begins_set : {X : Type 0} (xs : List (List X)) (i : ℕ) (x : List X) → Begins (get_or xs i []) x → (j : ℕ) → Begins (get_or xs j []) (get_or (slice_set xs i x) j [])
+pub begins_set : {X : Type 0} (xs : List (List X)) (i : ℕ) (x : List X) → Begins (get_or xs i []) x → (j : ℕ) →
+    Begins (get_or xs j []) (get_or (slice_set xs i x) j [])
 begins_set [] i x f j = begins_self []
 begins_set (y ∷ ys) zero x f zero = f
 begins_set (y ∷ ys) zero x f (suc j) = begins_self (get_or ys j [])
@@ -94,7 +100,8 @@ pub drop_length_begins : {X : Type 0} (xs ys : List X) (f : Begins xs ys) → dr
 drop_length_begins xs ys f = ap (drop (length xs)) (sym f.1) ∙ drop_at xs f.0 (length xs) refl
 
 -- a list in which the element at an index is another one, by its parts
-pub set_parts : {X : Type 0} (xs : List X) (i : ℕ) (x y : X) → slice_get xs i ≡ Some x → slice_set xs i y ≡ take i xs ++ (y ∷ drop (suc i) xs)
+pub set_parts : {X : Type 0} (xs : List X) (i : ℕ) (x y : X) → slice_get xs i ≡ Some x →
+    slice_set xs i y ≡ take i xs ++ (y ∷ drop (suc i) xs)
 set_parts [] i x y e = absurd (cc)
 set_parts (z ∷ zs) zero x y e = refl
 set_parts (z ∷ zs) (suc i) x y e = ap (λ l. z ∷ l) (set_parts zs i x y e)

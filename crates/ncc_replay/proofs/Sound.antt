@@ -1,5 +1,6 @@
 -- What every moment of a run keeps: the invariant behind the promise, and that each answer keeps it.
-use Rattle.std.proofs.Common.{◌≡◌, ℕ, ◌+◌, ◌-◌, ◌^◌, ◌<◌, ◌≤◌, ◌==◌, List, [], ◌∷◌, length, take, get_or, Some, Bool, false, refl, ap, sym, ◌∙◌, arith, subst, min}
+use Rattle.std.proofs.Common.{◌≡◌, ℕ, ◌+◌, ◌-◌, ◌^◌, ◌<◌, ◌≤◌, ◌==◌, List, [], ◌∷◌, length, take, get_or, Some, Bool, false, refl}
+use Rattle.std.proofs.Common.{ap, sym, ◌∙◌, arith, subst, min}
 use Rattle.std.specs.Prelude.{slice_get, count_by}
 use Rattle.std.specs.List.{AllByRecursion}
 use Rattle.std.proofs.lemmas.List.Elements.{All-weaker}
@@ -38,7 +39,8 @@ pub record Asks (qs : List Request) (wait : ℕ) (history : List Item) (at : ℕ
   pub stage_holds : StageHolds history at request c.stage
 
 -- a fact that was told, with what was told before it
-pub record ToldWell (qs : List Request) (M : Run → Type 0) (wait : ℕ) (history : List Item) (at : ℕ → ℕ) (earlier : List Told) (t : Told) : Type 0 where
+pub record ToldWell (qs : List Request) (M : Run → Type 0) (wait : ℕ) (history : List Item) (at : ℕ →
+    ℕ) (earlier : List Told) (t : Told) : Type 0 where
   pub request : Request
   pub numbered : 0 < t.conn
   pub asks : slice_get qs (t.conn - 1) ≡ Some request
@@ -77,16 +79,19 @@ covers_more m n bs h f = All-weaker (λ b. b.place ≤ m) (λ b. b.place ≤ n) 
 pub covers_greatest : (n : ℕ) (bs : List Point) → greatest_place bs ≤ n → Covers n bs
 covers_greatest n bs h = covers_more (greatest_place bs) n bs h (greatest_covers bs)
 
-pub stands_more : (old new : List Item) (command : Command) (place : ℕ) → Begins old new → StandsAt old command place → StandsAt new command place
+pub stands_more : (old new : List Item) (command : Command) (place : ℕ) → Begins old new → StandsAt old command place →
+    StandsAt new command place
 stands_more old new command place f h = (h.0, h.1, get_begins old new (place - 1) h.1 f h.2, h.3)
 
-pub stage_more : (old new : List Item) (at bt : ℕ → ℕ) (q : Request) (stage : Stage) → Begins old new → ((m : ℕ) → at m ≤ bt m) → StageHolds old at q stage → StageHolds new bt q stage
+pub stage_more : (old new : List Item) (at bt : ℕ → ℕ) (q : Request) (stage : Stage) → Begins old new → ((m : ℕ) → at m ≤ bt m) →
+    StageHolds old at q stage → StageHolds new bt q stage
 stage_more old new at bt q Enter f g h = tt
 stage_more old new at bt q Runs f g h = covers_more (at q.member) (bt q.member) q.bookmarks (g q.member) h
 stage_more old new at bt q Leave f g h = (covers_more (at q.member) (bt q.member) q.bookmarks (g q.member) h.0, h.1)
 stage_more old new at bt q (Placing place) f g h = (stands_more old new q.command place f h.0, omega (arith, h.1, g q.member))
 
-pub asks_more : (qs : List Request) (wait : ℕ) (old new : List Item) (at bt : ℕ → ℕ) (c : Conn) → Begins old new → ((m : ℕ) → at m ≤ bt m) → Asks qs wait old at c → Asks qs wait new bt c
+pub asks_more : (qs : List Request) (wait : ℕ) (old new : List Item) (at bt : ℕ → ℕ) (c : Conn) → Begins old new →
+    ((m : ℕ) → at m ≤ bt m) → Asks qs wait old at c → Asks qs wait new bt c
 asks_more qs wait old new at bt c f g h = record {
   request = h.request;
   numbered = h.numbered;
@@ -99,7 +104,8 @@ asks_more qs wait old new at bt c f g h = record {
 }
 
 -- a fact that was lawful stays so while the history grows
-pub lawful_more : (wait here now : ℕ) (old new : List Item) (q : Request) (conn : ℕ) (earlier : List Told) (fact : Fact) → Begins old new → Lawful wait here now old q conn earlier fact → Lawful wait here now new q conn earlier fact
+pub lawful_more : (wait here now : ℕ) (old new : List Item) (q : Request) (conn : ℕ) (earlier : List Told) (fact : Fact) →
+    Begins old new → Lawful wait here now old q conn earlier fact → Lawful wait here now new q conn earlier fact
 lawful_more wait here now old new q conn earlier (Entered at) f h = (h.0, omega (arith, h.1, begins_length old new f))
 lawful_more wait here now old new q conn earlier (Late need at moment) f h = h
 lawful_more wait here now old new q conn earlier (Rows at rows) f h =
@@ -108,7 +114,9 @@ lawful_more wait here now old new q conn earlier (Done at) f h = (h.0, h.1, h.2,
 lawful_more wait here now old new q conn earlier (Placed place) f h = stands_more old new q.command place f h
 lawful_more wait here now old new q conn earlier Elsewhere f h = h
 
-pub told_more : (qs : List Request) (M : Run → Type 0) (wait : ℕ) (old new : List Item) (at bt : ℕ → ℕ) (earlier : List Told) (t : Told) → Begins old new → ((m : ℕ) → at m ≤ bt m) → ToldWell qs M wait old at earlier t → ToldWell qs M wait new bt earlier t
+pub told_more : (qs : List Request) (M : Run → Type 0) (wait : ℕ) (old new : List Item) (at bt : ℕ →
+    ℕ) (earlier : List Told) (t : Told) → Begins old new → ((m : ℕ) → at m ≤ bt m) → ToldWell qs M wait old at earlier t →
+    ToldWell qs M wait new bt earlier t
 told_more qs M wait old new at bt earlier t f g h = record {
   request = h.request;
   numbered = h.numbered;
@@ -121,7 +129,11 @@ told_more qs M wait old new at bt earlier t f g h = record {
 }
 
 -- every list begins the history
-pub applied_begins : (qs : List Request) (M : Run → Type 0) (wait : ℕ) (r : Run) (s : Sound qs M wait r) (member : ℕ) → Begins (applied_of r member) r.history
+pub applied_begins : (qs : List Request) (M : Run → Type 0) (wait : ℕ) (r : Run) (s : Sound qs M wait r) (member : ℕ) →
+    Begins (applied_of r member) r.history
 applied_begins qs M wait r s member =
     let P : List (List Item) → Type 0 = λ lists. Begins (get_or lists (member - 1) []) r.history in
-    subst P (sym s.applied_is) (all_get_or (λ l. Begins l r.history) (r.history ∷ s.others) (member - 1) [] (begins_self r.history, s.begin) (r.history, refl))
+    subst P (sym s.applied_is) (all_get_or (λ l. Begins l r.history) (r.history ∷ s.others) (member - 1) [] (
+      begins_self r.history,
+      s.begin,
+    ) (r.history, refl))

@@ -1,5 +1,7 @@
 -- Words: what has no space in it, and a line cut at its spaces.
-use Rattle.std.proofs.Common.{◌≡◌, ◌≢◌, ℕ, ◌+◌, ◌<◌, ◌≤◌, ◌*◌, ◌/◌, ◌%◌, ◌^◌, ◌==◌, nat_lt, nat_le, true, false, not, ◌&&◌, List, [], ◌∷◌, ◌++◌, length, take, drop, replicate, Option, None, Some, All, inl, inr, refl, sym, ap, ◌∙◌, subst, arith, codes, decimal, position, slice_index, get_or, lit<, is_some}
+use Rattle.std.proofs.Common.{◌≡◌, ◌≢◌, ℕ, ◌+◌, ◌<◌, ◌≤◌, ◌*◌, ◌/◌, ◌%◌, ◌^◌, ◌==◌, nat_lt, nat_le, true, false, not, ◌&&◌, List}
+use Rattle.std.proofs.Common.{[], ◌∷◌, ◌++◌, length, take, drop, replicate, Option, None, Some, All, inl, inr, refl, sym, ap, ◌∙◌}
+use Rattle.std.proofs.Common.{subst, arith, codes, decimal, position, slice_index, get_or, lit<, is_some}
 use Rattle.std.specs.Borrow.{Bor}
 use Rattle.std.specs.List.{AllByRecursion, join_with_byte, list_all, position_or_len}
 use Rattle.std.specs.Str.Parse.{AllDigits}
@@ -7,7 +9,8 @@ use Rattle.std.proofs.lemmas.Bool.{cases_lt, and_parts, ne_eqb, not-true, ltb-tr
 use Rattle.std.proofs.lemmas.Fmt.{decimal_is_IsNumeral, IsAscii-decimal}
 use Rattle.std.proofs.lemmas.List.{get_or_past}
 use Rattle.std.proofs.lemmas.List.Elements.{All-nil, All-cons, All-append, All-replicate, All-from_recursion}
-use Rattle.std.proofs.lemmas.List.Splits.{slice_split_none, slice_split_at, slice_split_first, join_with_byte-slice_split, length-slice_split}
+use Rattle.std.proofs.lemmas.List.Splits.{slice_split_none, slice_split_at, slice_split_first, join_with_byte-slice_split}
+use Rattle.std.proofs.lemmas.List.Splits.{length-slice_split}
 use Rattle.std.proofs.lemmas.List.Sums.{prefix_len_passes}
 use Rattle.std.proofs.lemmas.Option.{cond_some, none-some}
 use Rattle.std.proofs.lemmas.Str.Parse.{digit_from_value}
@@ -34,8 +37,11 @@ pub cut_some : (line : List ℕ) (i : ℕ) → position (λ b. b == 32) line ≡
     → (i < length line) × (words_between line ≡ take i line ∷ words_between (drop (i + 1) line))
 cut_some line i e =
     let found = cond_some (nat_lt (position_or_len (λ b. b == 32) line) (length line)) (position_or_len (λ b. b == 32) line) i e in
-    let within : position_or_len (λ b. b == 32) line < length line = ltb-true (position_or_len (λ b. b == 32) line) (length line) found.0 in
-    (omega (arith, found.1), slice_split_first (λ b. b == 32) line 0 within ∙ ap (λ n. take n line ∷ words_between (drop (n + 1) line)) found.1)
+    let within : position_or_len (λ b. b == 32) line < length line = ltb-true (position_or_len (λ b. b == 32) line) (length line) found.0 in (
+      omega (arith, found.1),
+      slice_split_first (λ b. b == 32) line 0 within
+          ∙ ap (λ n. take n line ∷ words_between (drop (n + 1) line)) found.1,
+    )
 
 no_space_before : (line : List ℕ) → length line ≤ position_or_len (λ b. b == 32) line → NoSpace line
 no_space_before line le k d lt =
@@ -45,7 +51,8 @@ pub cut_none : (line : List ℕ) → position (λ b. b == 32) line ≡ None → 
 cut_none line e = elim (cases_lt (position_or_len (λ b. b == 32) line) (length line)) [
   | inl within ↦
       absurd (none-some (position_or_len (λ b. b == 32) line)
-      (sym e ∙ cond-true (nat_lt (position_or_len (λ b. b == 32) line) (length line)) (Some (position_or_len (λ b. b == 32) line)) None (lt-ltb (position_or_len (λ b. b == 32) line) (length line) within)))
+      (sym e ∙ cond-true (nat_lt (position_or_len (λ b. b == 32) line) (length line))
+      (Some (position_or_len (λ b. b == 32) line)) None (lt-ltb (position_or_len (λ b. b == 32) line) (length line) within)))
   | inr past ↦ slice_split_none (λ b. b == 32) line (no_space_before line past)
 ]
 
@@ -110,7 +117,11 @@ pub text_utf8 : (p : Point) (w : List ℕ) → w ≡ text_of p → IsUtf8 w
 unfolding text_of
 text_utf8 p w e =
     subst IsUtf8 (sym e) (IsUtf8-from_ascii (codes "ncc:" ++ encode_of standard (payload p))
-    (IsAscii-append (codes "ncc:") (encode_of standard (payload p)) (IsAscii-from_all (codes "ncc:") (All-from_recursion (λ b. b < 128) (codes "ncc:") (lit< tt, (lit< tt, (lit< tt, (lit< tt, tt)))))) (IsAscii-encode_of standard (payload p))))
+    (IsAscii-append (codes "ncc:") (encode_of standard (payload p))
+    (IsAscii-from_all (codes "ncc:") (All-from_recursion (λ b. b < 128) (codes "ncc:") (
+      lit< tt,
+      (lit< tt, (lit< tt, (lit< tt, tt))),
+    ))) (IsAscii-encode_of standard (payload p))))
 
 -- no symbol of base64 is a space
 
@@ -131,8 +142,13 @@ symbols_no_space (a ∷ b ∷ []) =
     (symbol_no_space (a / 4), (symbol_no_space (a % 4 * 16 + b / 16), (symbol_no_space (b % 16 * 4), tt)))
 symbols_no_space (a ∷ b ∷ c ∷ rest) =
     All-append (λ b. (b == 32) ≡ false) (encode_group standard.encode_table a b c) (encode_symbols standard.encode_table rest)
-    (All-from_recursion (λ b. (b == 32) ≡ false) (encode_group standard.encode_table a b c)
-    (symbol_no_space (a / 4), (symbol_no_space (a % 4 * 16 + b / 16), (symbol_no_space (b % 16 * 4 + c / 64), (symbol_no_space (c % 64), tt)))))
+    (All-from_recursion (λ b. (b == 32) ≡ false) (encode_group standard.encode_table a b c) (
+      symbol_no_space (a / 4),
+      (
+        symbol_no_space (a % 4 * 16 + b / 16),
+        (symbol_no_space (b % 16 * 4 + c / 64), (symbol_no_space (c % 64), tt)),
+      ),
+    ))
     (symbols_no_space rest)
 
 front_no_space : NoSpace (codes "ncc:")
@@ -142,5 +158,6 @@ pub text_no_space : (p : Point) → NoSpace (text_of p)
 unfolding text_of
 text_no_space p =
     All-append (λ b. (b == 32) ≡ false) (codes "ncc:") (encode_of standard (payload p)) front_no_space
-    (All-append (λ b. (b == 32) ≡ false) (encode_symbols standard.encode_table (payload p)) (replicate (padding_len (length (payload p))) 61)
+    (All-append (λ b. (b == 32) ≡ false) (encode_symbols standard.encode_table (payload p))
+    (replicate (padding_len (length (payload p))) 61)
     (symbols_no_space (payload p)) (All-replicate (λ b. (b == 32) ≡ false) (padding_len (length (payload p))) 61 refl))

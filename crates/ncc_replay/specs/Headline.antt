@@ -2,7 +2,7 @@
 use Rattle.std.specs.Prelude.{◌≡◌, ℕ, ◌-◌, ◌<◌, ◌≤◌, ◌==◌, Bool, false, List, ◌++◌, take, Some, slice_get, count_by}
 use Rattle.std.specs.List.{AllByRecursion}
 use Rattle.ncc_wait.specs.Waiting.{outcome_of}
-use Rattle.ncc_wait.specs.declared.ends.Outcome.TheVariants.{NotYet}
+use Rattle.ncc_wait.specs.declared.outcomes.Outcome.TheVariants.{NotYet}
 use Rattle.ncc_replay.specs.Run.{Run, at_of, run_on}
 use Rattle.ncc_replay.specs.Request.{Request, requests}
 use Rattle.ncc_replay.specs.Moment.{IsMoment, AfterEach}
@@ -43,7 +43,14 @@ FactsAreLawful start es = (k : ℕ) (t : Told) → slice_get (run_on es start).t
 
 -- the fact names this place as that of a write
 abbrev pub is_placed_at : ℕ → Told → Bool
-is_placed_at place t = elim t.fact [ Entered at ↦ false | Late need at now ↦ false | Rows at rows ↦ false | Done at ↦ false | Placed p ↦ p == place | Elsewhere ↦ false ]
+is_placed_at place t = elim t.fact [
+  | Entered at ↦ false
+  | Late need at now ↦ false
+  | Rows at rows ↦ false
+  | Done at ↦ false
+  | Placed p ↦ p == place
+  | Elsewhere ↦ false
+]
 
 -- no two writes are told one place
 abbrev pub PlacesAreApart : Run → List (ℕ × Event) → Type 0

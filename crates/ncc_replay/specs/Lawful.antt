@@ -2,7 +2,7 @@
 use Rattle.std.specs.Prelude.{◌≡◌, ◌≢◌, ℕ, ◌+◌, ◌-◌, ◌^◌, ◌<◌, ◌≤◌, List, length, take, Option, None, Some, min, slice_get, All}
 use Rattle.ncc_bookmark.specs.Point.{Point, greatest_place}
 use Rattle.ncc_wait.specs.Waiting.{outcome_of}
-use Rattle.ncc_wait.specs.declared.ends.Outcome.TheVariants.{Late as IsLate}
+use Rattle.ncc_wait.specs.declared.outcomes.Outcome.TheVariants.{Late as IsLate}
 use Rattle.ncc_replay.specs.State.{last_value}
 use Rattle.ncc_replay.specs.Request.{Request}
 use Rattle.ncc_replay.specs.declared.item.Item.{Item}

@@ -34,7 +34,8 @@ AreOf cluster bookmarks = All (λ b. Fits b × (b.cluster ≡ cluster)) bookmark
 -- an event whose numbers, words and bookmarks a line of a script can have
 abbrev pub Spellable : ℕ → Event → Type 0
 Spellable cluster (Time to) = to < 2 ^ 64
-Spellable cluster (Put member key value bookmarks) = (member < 2 ^ 8) × (is_word key ≡ true) × (is_word value ≡ true) × AreOf cluster bookmarks
+Spellable cluster (Put member key value bookmarks) = (member < 2 ^ 8) × (is_word key ≡ true) × (is_word value ≡ true)
+    × AreOf cluster bookmarks
 Spellable cluster (Get member key bookmarks) = (member < 2 ^ 8) × (is_word key ≡ true) × AreOf cluster bookmarks
 Spellable cluster (Apply member count) = (member < 2 ^ 8) × (1 ≤ count) × (count < 2 ^ 64)
 

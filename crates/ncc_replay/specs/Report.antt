@@ -1,5 +1,6 @@
 -- The report of a run, as text.
-use Rattle.std.specs.Prelude.{ℕ, ◌+◌, nat_le, ◌==◌, Bool, List, [], ◌∷◌, ◌++◌, length, map, codes, decimal, Option, None, Some, if◌then◌else◌}
+use Rattle.std.specs.Prelude.{ℕ, ◌+◌, nat_le, ◌==◌, Bool, List, [], ◌∷◌, ◌++◌, length, map, codes, decimal, Option, None, Some}
+use Rattle.std.specs.Prelude.{if◌then◌else◌}
 use Rattle.std.specs.List.{flat_map, list_any}
 use Rattle.ncc_replay.specs.Run.{Run}
 use Rattle.ncc_replay.specs.declared.item.Item.{Item}
@@ -59,10 +60,12 @@ lines_of_places cores member (at ∷ ats) = member_line cores member at ++ lines
 unfoldable pub place_lines : ℕ → List Item → List ℕ
 place_lines place [] = []
 place_lines place (item ∷ items) =
-    (codes "place" ++ (spaced place ++ (spaced item.term ++ (codes " put " ++ (item.key ++ (codes " " ++ (item.value ++ codes " valid\n"))))))) ++ place_lines (place + 1) items
+    (codes "place" ++ (spaced place ++ (spaced item.term ++
+    (codes " put " ++ (item.key ++ (codes " " ++ (item.value ++ codes " valid\n"))))))) ++ place_lines (place + 1) items
 
 -- the whole report
 unfoldable pub report_of : Run → List ℕ
 report_of r =
-    codes "ncc-report 1\n" ++ (flat_map fact_line r.told ++ (conn_lines 1 r.opened r.live ++ (lines_of_places r.cores 1 (map length r.applied)
+    codes "ncc-report 1\n" ++ (flat_map fact_line r.told ++
+    (conn_lines 1 r.opened r.live ++ (lines_of_places r.cores 1 (map length r.applied)
     ++ (codes "history" ++ (spaced (length r.history) ++ (codes "\n" ++ (place_lines 1 r.history ++ codes "end\n")))))))

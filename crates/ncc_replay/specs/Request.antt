@@ -24,7 +24,12 @@ clock_after now (events.Apply member count) = now
 -- the request that an event makes, if any
 abbrev pub request_of : ℕ → Event → List Request
 request_of now (events.Time to) = []
-request_of now (events.Put member key value bookmarks) = record { asked = now; member = member; command = Put key value; bookmarks = bookmarks } ∷ []
+request_of now (events.Put member key value bookmarks) = record {
+  asked = now;
+  member = member;
+  command = Put key value;
+  bookmarks = bookmarks;
+} ∷ []
 request_of now (events.Get member key bookmarks) = record { asked = now; member = member; command = Get key; bookmarks = bookmarks } ∷ []
 request_of now (events.Apply member count) = []
 

@@ -1,10 +1,12 @@
 -- The run of a cluster over one list of entries: its state, and what each event makes of it.
 -- Member 1 leads in term 1 and applies each entry as it appends it. The other members apply later.
-use Rattle.std.specs.Prelude.{ℕ, zero, suc, ◌+◌, ◌-◌, ◌^◌, nat_lt, nat_le, ◌==◌, Bool, true, false, List, [], ◌∷◌, ◌++◌, length, take, drop, Option, None, Some, min, replicate, position, slice_get, slice_set, slice_index_or, sum_by, if◌then◌else◌}
+use Rattle.std.specs.Prelude.{ℕ, zero, suc, ◌+◌, ◌-◌, ◌^◌, nat_lt, nat_le, ◌==◌, Bool, true, false, List, [], ◌∷◌, ◌++◌, length}
+use Rattle.std.specs.Prelude.{take, drop, Option, None, Some, min, replicate, position, slice_get, slice_set, slice_index_or}
+use Rattle.std.specs.Prelude.{sum_by, if◌then◌else◌}
 use Rattle.ncc_bookmark.specs.Point.{Point, greatest_place}
 use Rattle.ncc_wait.specs.Waiting.{outcome_of}
-use Rattle.ncc_wait.specs.declared.ends.Outcome.{Outcome}
-use Rattle.ncc_wait.specs.declared.ends.Outcome.TheVariants.{Ready, NotYet, Late as IsLate}
+use Rattle.ncc_wait.specs.declared.outcomes.Outcome.{Outcome}
+use Rattle.ncc_wait.specs.declared.outcomes.Outcome.TheVariants.{Ready, NotYet, Late as IsLate}
 use Rattle.ncc_replay.specs.State.{last_value}
 use Rattle.ncc_replay.specs.declared.item.Item.{Item}
 use Rattle.ncc_replay.specs.declared.event.Event.{Event}

@@ -1,5 +1,6 @@
 -- A script: its lines, the events that they say, and its first line that is not accepted.
-use Rattle.std.specs.Prelude.{◌≡◌, ◌≢◌, ◌⊎◌, ℕ, ◌==◌, nat_lt, nat_le, ◌&&◌, not, Bool, List, [], ◌∷◌, length, filter, Option, None, Some, if◌then◌else◌}
+use Rattle.std.specs.Prelude.{◌≡◌, ◌≢◌, ◌⊎◌, ℕ, ◌==◌, nat_lt, nat_le, ◌&&◌, not, Bool, List, [], ◌∷◌, length, filter, Option, None}
+use Rattle.std.specs.Prelude.{Some, if◌then◌else◌}
 use Rattle.std.specs.List.{onto_first, enumerate_from}
 use Rattle.ncc_replay.specs.Run.{Run, begun, happens, run_on}
 use Rattle.ncc_replay.specs.Line.{Says, SaysCluster, header, is_skipped, first_word, is_verb}
@@ -66,7 +67,8 @@ start_of s = begun s.cores s.replicas s.wait
 abbrev pub MakeScript : List (ℕ × List ℕ) → Script → Type 0
 MakeScript [] s = s ≡ record { setup = None; events = [] }
 MakeScript (h ∷ []) s = (h.1 ≡ header) × (s ≡ record { setup = None; events = [] })
-MakeScript (h ∷ c ∷ ls) s = (h.1 ≡ header) × (setup : Setup) × (s.setup ≡ Some setup) × SaysCluster c.1 setup × SayEvents setup.cluster (start_of setup) ls s.events
+MakeScript (h ∷ c ∷ ls) s = (h.1 ≡ header) × (setup : Setup) × (s.setup ≡ Some setup) × SaysCluster c.1 setup
+    × SayEvents setup.cluster (start_of setup) ls s.events
 
 -- a text that is a script, and which
 abbrev pub IsScript : List ℕ → Script → Type 0

@@ -1,7 +1,8 @@
 -- What the program says of the end of a replay: its exit status, and one line of text.
 use Rattle.std.specs.Prelude.{ℕ, List, [], ◌++◌, codes, decimal}
 use Rattle.ncc_replay.specs.declared.status.Cause.{Cause}
-use Rattle.ncc_replay.specs.declared.status.Cause.TheVariants.{NoHeader, NoCluster, UnknownVerb, BadLine, BadBookmark, WrongWorld, NoMember, NoConn, NoMessage, NoSession, WrongRole, BackInTime, Busy}
+use Rattle.ncc_replay.specs.declared.status.Cause.TheVariants.{NoHeader, NoCluster, UnknownVerb, BadLine, BadBookmark, WrongWorld}
+use Rattle.ncc_replay.specs.declared.status.Cause.TheVariants.{NoMember, NoConn, NoMessage, NoSession, WrongRole, BackInTime, Busy}
 use Rattle.ncc_replay.specs.declared.status.Which.{Which}
 use Rattle.ncc_replay.specs.declared.status.Which.TheVariants.{Events, Messages, MessageBytes, Line, Script}
 use Rattle.ncc_replay.specs.declared.status.Status.{Status}

@@ -1,6 +1,7 @@
 //! The state of a run, and its steps.
 
-ghost use Rattle.std.specs.Prelude.{◌≡◌, ℕ, ◌+◌, ◌-◌, ◌<◌, ◌≤◌, ◌++◌, ◌∷◌, [], length, take, drop, position, slice_get, IfOk, OnOk, IfSome, Some, None, List, suc, true, false, if◌then◌else◌};
+ghost use Rattle.std.specs.Prelude.{◌≡◌, ℕ, ◌+◌, ◌-◌, ◌<◌, ◌≤◌, ◌++◌, ◌∷◌, [], length, take, drop, position, slice_get, IfOk, OnOk};
+ghost use Rattle.std.specs.Prelude.{IfSome, Some, None, List, suc, true, false, if◌then◌else◌};
 ghost use Rattle.std.specs.Str.{bytes_eq};
 ghost use Rattle.std.specs.Prelude.{◌^◌, min};
 ghost use Rattle.std.specs.List.{AllByRecursion};
@@ -46,7 +47,8 @@ pub fn set_value(
     key: &Text,
     value: &Text,
 ) -> Result<(), AllocError>
-    ensures { OnOk result ((q : List ℕ) → get_by_text store.new q ≡ (if bytes_eq key.now q then Some value.now else get_by_text store.old q)) }
+    ensures { OnOk result ((q : List ℕ) →
+        get_by_text store.new q ≡ (if bytes_eq key.now q then Some value.now else get_by_text store.old q)) }
 {
     let name = String::from_str(alloc, key.as_str())?;
     let value = value.copy()?;
@@ -57,7 +59,8 @@ pub fn set_value(
 // The connection at an index gets its next question, or ends.
 fn move_conn(live: &mut Vec<Conn>, index: usize, next_stage: Option<Stage>)
     requires { index < length live.old.items }
-    ensures moved { (c : Conn) → slice_get live.old.items index ≡ Some c → live.new.items ≡ take index live.old.items ++ (next c next_stage ++ drop (suc index) live.old.items) }
+    ensures moved { (c : Conn) → slice_get live.old.items index ≡ Some c →
+        live.new.items ≡ take index live.old.items ++ (next c next_stage ++ drop (suc index) live.old.items) }
     ensures there { (members : ℕ) → AllByRecursion (HasMember members) live.old.items → AllByRecursion (HasMember members) live.new.items }
 {
     match next_stage {
@@ -72,7 +75,8 @@ fn move_conn(live: &mut Vec<Conn>, index: usize, next_stage: Option<Stage>)
 fn apply_item(alloc: Global, member: &mut Member, item: &Item) -> Result<(), AllocError>
     requires { member.old.at + 1 < 2 ^ 64 }
     ensures at { OnOk result (member.new.at ≡ member.old.at + 1) }
-    ensures state { OnOk result ((q : List ℕ) → get_by_text member.new.store q ≡ (if bytes_eq item.now.key q then Some item.now.value else get_by_text member.old.store q)) }
+    ensures state { OnOk result ((q : List ℕ) →
+        get_by_text member.new.store q ≡ (if bytes_eq item.now.key q then Some item.now.value else get_by_text member.old.store q)) }
 {
     set_value(alloc, &mut member.store, &item.key, &item.value)?;
     member.at += 1;
@@ -114,7 +118,8 @@ fn catch_up(
 
 impl Cluster {
     ghost use Rattle.ncc_replay.specs.State.{last_value};
-    ghost use Rattle.ncc_replay.specs.Run.{acts, applied_of, at_of, reply, replies, runs, leaves, turn, tells, proposes, settled, opens, lagging};
+    ghost use Rattle.ncc_replay.specs.Run.{acts, applied_of, at_of, reply, replies, runs, leaves, turn, tells, proposes, settled};
+    ghost use Rattle.ncc_replay.specs.Run.{opens, lagging};
     ghost use Rattle.ncc_replay.specs.Cluster.{run_in, IsKept, HasMember, Stores};
 
     /// How many entries a member has applied.
@@ -286,7 +291,9 @@ impl Cluster {
     ) -> Result<(), AllocError>
         requires kept { IsKept self.old }
         requires there { index < length self.old.live.items }
-        ensures ok { OnOk result ((c : Conn) → slice_get self.old.live.items index ≡ Some c → run_in self.new ≡ tells line (run_in self.old) (take index self.old.live.items) c (drop (suc index) self.old.live.items) fact next) }
+        ensures ok { OnOk result ((c : Conn) → slice_get self.old.live.items index ≡ Some c →
+            run_in self.new ≡ tells line (run_in self.old) (take index self.old.live.items) c
+            (drop (suc index) self.old.live.items) fact next) }
         ensures kept { OnOk result (IsKept self.new) }
     {
         let conn = self.live[index].number;
@@ -299,7 +306,8 @@ impl Cluster {
     fn propose(&mut self, alloc: Global, index: usize, item: Item) -> Result<(), AllocError>
         requires kept { IsKept self.old }
         requires there { index < length self.old.live.items }
-        ensures ok { OnOk result ((c : Conn) → slice_get self.old.live.items index ≡ Some c → run_in self.new ≡ proposes (run_in self.old) (take index self.old.live.items) c (drop (suc index) self.old.live.items) item) }
+        ensures ok { OnOk result ((c : Conn) → slice_get self.old.live.items index ≡ Some c →
+            run_in self.new ≡ proposes (run_in self.old) (take index self.old.live.items) c (drop (suc index) self.old.live.items) item) }
         ensures kept { OnOk result (IsKept self.new) }
     {
         let place = self.history.len() as u64 + 1;

@@ -1,53 +1,10 @@
 //! What a line of a script asks of the cluster.
 
-ghost use Rattle.std.specs.Prelude.{◌≡◌, ◌++◌, ◌∷◌, [], length, OnOk, OnErr, IsTrue, ◌↔◌};
-
 use ncc_bookmark::Bookmark;
-use ncc_pack::Text;
-use std::alloc::{AllocError, Global};
-use std::marker::Model;
+use ncc_pack::{Sequence, Text};
 
 /// The bookmarks that a request presents. A contract sees the list of the places that they name.
-#[derive(Drop)]
-pub struct Bookmarks {
-    inner: Vec<Bookmark>,
-}
-
-impl Model for Bookmarks {
-    ghost use Rattle.std.specs.Prelude.{List};
-    ghost use Rattle.ncc_bookmark.specs.Point.{Point};
-
-    ghost Value = { List Point };
-
-    ghost view = { λ b. b.inner.items };
-}
-
-impl Bookmarks {
-    /// No bookmarks. It takes no memory.
-    pub fn new(alloc: Global) -> Bookmarks
-        ensures { result ≡ [] }
-    {
-        Bookmarks {
-            inner: Vec::new(alloc),
-        }
-    }
-
-    /// The bookmarks as a slice.
-    pub fn as_slice(&self) -> &[Bookmark]
-        ensures { result.now ≡ self.now }
-    {
-        self.inner.as_slice()
-    }
-
-    /// Appends a bookmark. An `Err` changes nothing.
-    pub fn push(&mut self, bookmark: Bookmark) -> Result<(), AllocError>
-        ensures ok { OnOk result (self.new ≡ self.old ++ bookmark ∷ []) }
-        ensures err { OnErr result (self.new ≡ self.old) }
-    {
-        self.inner.push(bookmark)?;
-        Ok(())
-    }
-}
+pub type Bookmarks = Sequence<Bookmark>;
 
 /// One event of a run, as a line of a script gives it. Members are numbered from 1, moments are in milliseconds.
 #[derive(Drop)]

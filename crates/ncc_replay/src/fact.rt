@@ -1,6 +1,7 @@
 //! What members tell their clients.
 
 use ncc_pack::Text;
+use thiserror::Error;
 
 /// An answer of a member to a question of a connection. `at` is how many entries the member has applied.
 #[derive(Debug, Drop)]
@@ -28,14 +29,18 @@ pub struct Told {
 }
 
 /// Why a world makes no event of what it is given.
-#[derive(Clone, Copy, Debug, PartialEq, Eq)]
+#[derive(Clone, Copy, Debug, PartialEq, Eq, Error)]
 pub enum WorldError {
     /// There is no member with this number.
+    #[error("no such member")]
     NoMember,
     /// Member 1 applies each entry as it appends it, and has no further ones to apply.
+    #[error("wrong kind of member")]
     WrongRole,
     /// The clock does not go back.
+    #[error("time goes back")]
     BackInTime,
     /// There was no memory; the world answers so from then on.
+    #[error("out of memory")]
     Memory,
 }

@@ -6,18 +6,22 @@ ghost use Rattle.ncc_replay.specs.Replay.{ReadsAll, IsTooLong, most_bytes};
 
 use ncc_base::Source;
 use std::alloc::Global;
+use thiserror::Error;
 
 /// The most bytes that a script may have.
 pub const MOST_BYTES: usize = 268_435_456;
 
 /// Why an input is not read to its end.
-#[derive(Clone, Copy, Debug, PartialEq, Eq)]
+#[derive(Clone, Copy, Debug, PartialEq, Eq, Error)]
 pub enum ReadError {
     /// The source failed.
+    #[error("the source failed")]
     Fault,
     /// The input has more bytes than a script may have.
+    #[error("more bytes than a script may have")]
     TooLong,
     /// There was no memory.
+    #[error("out of memory")]
     Memory,
 }
 

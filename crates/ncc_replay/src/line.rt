@@ -24,7 +24,7 @@ use thiserror::Error;
 #[derive(Clone, Copy, Debug, PartialEq, Eq, Error)]
 pub enum LineError {
     /// The line is refused, for this cause.
-    #[error("the line is refused: {0:?}")]
+    #[error("the line is refused: {0}")]
     Cause(Cause),
     /// There was no memory.
     #[error("out of memory")]

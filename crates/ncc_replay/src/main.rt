@@ -17,8 +17,6 @@ mod reply;
 mod report;
 mod script;
 mod status;
-#[cfg(test)]
-mod tests;
 mod world;
 
 use crate::replay::replay;
@@ -40,7 +38,7 @@ fn words_of(alloc: Global, texts: &[String]) -> Result<Words, AllocError>
     Ok(words)
 }
 
-// The words behind the name of the program.
+// The arguments: the words behind the name of the program.
 fn words_behind(alloc: Global, texts: &[String]) -> Result<Words, AllocError>
     ensures { IfOk result (λ words. words ≡ map string_bytes (drop 1 texts.now)) }
 {

@@ -3,12 +3,14 @@
 ghost use Rattle.std.specs.Prelude.{◌≡◌, ◌≢◌, ◌↔◌, ◌⊎◌, ◌≤◌, ◌<◌, ℕ, List, length, take, IfOk, OnOk, IsErrOf, IsTrue, Some};
 ghost use Rattle.std.specs.Io.KnownBytes.{Appends};
 ghost use Rattle.ncc_base.specs.Faults.{Rose};
+ghost use Rattle.ncc_base.specs.Flushing.{IsAllFlushed};
 ghost use Rattle.ncc_replay.specs.Headline.{MembersAgree, FactsAreLawful, PlacesAreApart, NobodyIsForgotten};
 ghost use Rattle.ncc_replay.specs.Report.{report_of};
 ghost use Rattle.ncc_replay.specs.Script.{Script, IsScript, IsNoScript, run_of};
 ghost use Rattle.std.specs.Prelude.{◌++◌};
 ghost use Rattle.ncc_replay.specs.Progress.{RunIs};
-ghost use Rattle.ncc_replay.specs.Replay.{Reads, ReadsNone, IsTooLong, IsGiven, OfRun, MayEnd, status_unread, status_refused, most_bytes, run_words};
+ghost use Rattle.ncc_replay.specs.Replay.{Reads, ReadsNone, IsTooLong, IsGiven, OfRun, MayEnd, status_unread, status_refused};
+ghost use Rattle.ncc_replay.specs.Replay.{most_bytes, run_words};
 ghost use Rattle.ncc_replay.specs.declared.status.Cause.{Cause as Causes};
 ghost use Rattle.ncc_replay.specs.declared.status.Which.{Which as Limits};
 
@@ -21,7 +23,7 @@ use ncc_pack::{Bytes, Words};
 use std::alloc::{AllocError, Global};
 
 // The words are those that run a script.
-fn runs(words: &Words) -> bool
+fn are_run_words(words: &Words) -> bool
     ensures { IsTrue result ↔ (words.now ≡ run_words) }
 {
     match words.as_slice() {
@@ -31,7 +33,7 @@ fn runs(words: &Words) -> bool
 }
 
 // The report of a run, or of none.
-fn put_report(world: &Option<World>, into: &mut Bytes) -> Result<(), AllocError>
+fn append_report(world: &Option<World>, into: &mut Bytes) -> Result<(), AllocError>
     ensures { (s : Script) → RunIs world.now s → OnOk result (into.new ≡ into.old ++ report_of (run_of s)) }
 {
     match world {
@@ -50,7 +52,7 @@ fn report(alloc: Global, text: &[u8]) -> Result<Bytes, ScriptError>
         Err(error) => return Err(error),
     };
     let mut bytes = Bytes::new(alloc);
-    match put_report(&world, &mut bytes) {
+    match append_report(&world, &mut bytes) {
         Ok(()) => Ok(bytes),
         Err(_) => Err(ScriptError::Memory),
     }
@@ -59,6 +61,7 @@ fn report(alloc: Global, text: &[u8]) -> Result<Bytes, ScriptError>
 // Writes a report, and says how that ended.
 fn write_report<K: Sink>(report: &[u8], output: &mut K) -> Status
     ensures done { result ≡ Status.Done → Appends (K.held output.old) (K.held output.new) report.now }
+    ensures flushed { result ≡ Status.Done → IsAllFlushed (K.held output.new) (K.flushed output.new) }
     ensures prefix { result ≡ Status.WriteFault → (n : ℕ) × Appends (K.held output.old) (K.held output.new) (take n report.now) }
     ensures fault { result ≡ Status.WriteFault → Rose (K.faults output.old) (K.faults output.new) }
     ensures memory { result ≡ Status.Memory → K.held output.new ≡ K.held output.old }
@@ -76,7 +79,7 @@ fn write_report<K: Sink>(report: &[u8], output: &mut K) -> Status
 }
 
 // How a replay ends whose input is not read.
-fn unread(error: ReadError) -> Status
+fn status_of_input(error: ReadError) -> Status
     ensures { result ≡ status_unread error }
 {
     match error {
@@ -89,7 +92,7 @@ fn unread(error: ReadError) -> Status
 }
 
 // How a replay ends whose input gives no run.
-fn refused(error: ScriptError) -> Status
+fn status_of_script(error: ScriptError) -> Status
     ensures { result ≡ status_refused error }
 {
     match error {
@@ -107,41 +110,53 @@ pub fn replay<S: Source, K: Sink>(
     output: &mut K,
 ) -> Status
     // The whole input was read, and exactly the report of the script's run was written.
-    ensures done { result ≡ Status.Done → (s : Script) × Reads (S.left input.old) (S.left input.new) s × Appends (K.held output.old) (K.held output.new) (report_of (run_of s)) }
+    ensures done { result ≡ Status.Done → (s : Script) × Reads (S.left input.old) (S.left input.new) s
+        × Appends (K.held output.old) (K.held output.new) (report_of (run_of s)) }
+
+    // All that the sink holds was flushed, where it tells what was.
+    ensures flushed { result ≡ Status.Done → IsAllFlushed (K.held output.new) (K.flushed output.new) }
 
     // The promise, of the script that was read.
     ensures members_agree { result ≡ Status.Done → (s : Script) → Reads (S.left input.old) (S.left input.new) s → OfRun MembersAgree s }
-    ensures facts_are_lawful { result ≡ Status.Done → (s : Script) → Reads (S.left input.old) (S.left input.new) s → OfRun FactsAreLawful s }
-    ensures places_are_apart { result ≡ Status.Done → (s : Script) → Reads (S.left input.old) (S.left input.new) s → OfRun PlacesAreApart s }
-    ensures nobody_is_forgotten { result ≡ Status.Done → (s : Script) → Reads (S.left input.old) (S.left input.new) s → OfRun NobodyIsForgotten s }
+    ensures facts_are_lawful { result ≡ Status.Done → (s : Script) → Reads (S.left input.old) (S.left input.new) s →
+        OfRun FactsAreLawful s }
+    ensures places_are_apart { result ≡ Status.Done → (s : Script) → Reads (S.left input.old) (S.left input.new) s →
+        OfRun PlacesAreApart s }
+    ensures nobody_is_forgotten { result ≡ Status.Done → (s : Script) → Reads (S.left input.old) (S.left input.new) s →
+        OfRun NobodyIsForgotten s }
 
     // When each other answer comes.
     ensures bad_words { (result ≡ Status.BadWords) ↔ (words.now ≢ run_words) }
-    ensures bad_script { (line : ℕ) (cause : Causes) → result ≡ Status.BadScript line cause → ReadsNone (S.left input.old) (S.left input.new) line cause }
+    ensures bad_script { (line : ℕ) (cause : Causes) → result ≡ Status.BadScript line cause →
+        ReadsNone (S.left input.old) (S.left input.new) line cause }
     ensures limit { (which : Limits) → result ≡ Status.Limit which → (which ≡ Which.Script) × IsTooLong (S.left input.old) }
     ensures read_fault { result ≡ Status.ReadFault → Rose (S.faults input.old) (S.faults input.new) }
     ensures write_fault { result ≡ Status.WriteFault → Rose (K.faults output.old) (K.faults output.new) }
 
     // Where source and sink do not fail and memory does not run out, the input decides.
-    ensures completes { (text : List ℕ) (s : Script) → IsGiven words.now (S.left input.old) text → length text ≤ most_bytes → IsScript text s → MayEnd result Status.Done }
-    ensures refuses { (text : List ℕ) (line : ℕ) (cause : Causes) → IsGiven words.now (S.left input.old) text → length text ≤ most_bytes → IsNoScript text line cause → MayEnd result (Status.BadScript line cause) }
-    ensures too_long { (text : List ℕ) → IsGiven words.now (S.left input.old) text → most_bytes < length text → MayEnd result (Status.Limit Which.Script) }
+    ensures completes { (text : List ℕ) (s : Script) → IsGiven words.now (S.left input.old) text → length text ≤ most_bytes →
+        IsScript text s → MayEnd result Status.Done }
+    ensures refuses { (text : List ℕ) (line : ℕ) (cause : Causes) → IsGiven words.now (S.left input.old) text →
+        length text ≤ most_bytes → IsNoScript text line cause → MayEnd result (Status.BadScript line cause) }
+    ensures too_long { (text : List ℕ) → IsGiven words.now (S.left input.old) text → most_bytes < length text →
+        MayEnd result (Status.Limit Which.Script) }
 
     // What is written otherwise.
     ensures nothing_written { result ≢ Status.Done → result ≢ Status.WriteFault → K.held output.new ≡ K.held output.old }
-    ensures prefix { result ≡ Status.WriteFault → (s : Script) × (n : ℕ) × Reads (S.left input.old) (S.left input.new) s × Appends (K.held output.old) (K.held output.new) (take n (report_of (run_of s))) }
+    ensures prefix { result ≡ Status.WriteFault → (s : Script) × (n : ℕ) × Reads (S.left input.old) (S.left input.new) s
+        × Appends (K.held output.old) (K.held output.new) (take n (report_of (run_of s))) }
     ensures nothing_read { result ≡ Status.BadWords → S.left input.new ≡ S.left input.old }
 {
-    if !runs(words) {
+    if !are_run_words(words) {
         return Status::BadWords;
     }
     let text = match read_all(alloc, input) {
         Ok(text) => text,
-        Err(error) => return unread(error),
+        Err(error) => return status_of_input(error),
     };
     let report = match report(alloc, text.as_slice()) {
         Ok(report) => report,
-        Err(error) => return refused(error),
+        Err(error) => return status_of_script(error),
     };
     write_report(report.as_slice(), output)
 }

@@ -3,7 +3,8 @@
 
 ghost use Rattle.std.specs.Prelude.{◌≡◌, ◌++◌, OnOk, codes, ◌+◌, ◌<◌, true, false, ℕ, IfOk, vec_len, slice_set, slice_index_or, ◌-◌};
 ghost use Rattle.std.specs.List.{flat_map};
-ghost use Rattle.ncc_replay.specs.Report.{spaced, rows_text, fact_text, fact_line, role_text, member_line, place_lines, is_waiting, conn_state, conn_lines};
+ghost use Rattle.ncc_replay.specs.Report.{spaced, rows_text, fact_text, fact_line, role_text, member_line, place_lines, is_waiting};
+ghost use Rattle.ncc_replay.specs.Report.{conn_state, conn_lines};
 
 use crate::conn::Conn;
 use crate::fact::{Fact, Told};

@@ -12,13 +12,16 @@ use crate::line::{LineError, parse_cluster, parse_line, skips};
 use crate::status::Cause;
 use crate::world::World;
 use std::alloc::Global;
+use thiserror::Error;
 
 /// Why a script gives no run.
-#[derive(Clone, Copy, Debug, PartialEq, Eq)]
+#[derive(Clone, Copy, Debug, PartialEq, Eq, Error)]
 pub enum ScriptError {
     /// The first line that is not accepted, numbered from 1, and why.
+    #[error("line {line}: {cause}")]
     Bad { line: u64, cause: Cause },
     /// There was no memory.
+    #[error("out of memory")]
     Memory,
 }
 
@@ -54,8 +57,10 @@ fn cut_line(text: &[u8]) -> (&[u8], &[u8])
 
 // The line that is to be the header.
 fn take_header(number: u64, line: &[u8]) -> Result<Progress, ScriptError>
-    ensures ok { IfOk result (λ next. (all rest : List (ℕ × List ℕ)) → Stands all ((number, line.now) ∷ rest) Progress.Header → Stands all rest next) }
-    ensures bad { (at : ℕ) (cause : Causes) → IsErrOf result (ScriptError.Bad at cause) → (all rest : List (ℕ × List ℕ)) → Stands all ((number, line.now) ∷ rest) Progress.Header → RefuseLine all at cause }
+    ensures ok { IfOk result (λ next. (all rest : List (ℕ × List ℕ)) → Stands all ((number, line.now) ∷ rest) Progress.Header →
+        Stands all rest next) }
+    ensures bad { (at : ℕ) (cause : Causes) → IsErrOf result (ScriptError.Bad at cause) → (all rest : List (ℕ × List ℕ)) →
+        Stands all ((number, line.now) ∷ rest) Progress.Header → RefuseLine all at cause }
 {
     if line == b"ncc-script 1".as_slice() {
         Ok(Progress::Cluster)
@@ -69,8 +74,10 @@ fn take_header(number: u64, line: &[u8]) -> Result<Progress, ScriptError>
 
 // The line that is to name the cluster.
 fn take_cluster(alloc: Global, number: u64, line: &[u8]) -> Result<Progress, ScriptError>
-    ensures ok { IfOk result (λ next. (all rest : List (ℕ × List ℕ)) → Stands all ((number, line.now) ∷ rest) Progress.Cluster → Stands all rest next) }
-    ensures bad { (at : ℕ) (cause : Causes) → IsErrOf result (ScriptError.Bad at cause) → (all rest : List (ℕ × List ℕ)) → Stands all ((number, line.now) ∷ rest) Progress.Cluster → RefuseLine all at cause }
+    ensures ok { IfOk result (λ next. (all rest : List (ℕ × List ℕ)) → Stands all ((number, line.now) ∷ rest) Progress.Cluster →
+        Stands all rest next) }
+    ensures bad { (at : ℕ) (cause : Causes) → IsErrOf result (ScriptError.Bad at cause) → (all rest : List (ℕ × List ℕ)) →
+        Stands all ((number, line.now) ∷ rest) Progress.Cluster → RefuseLine all at cause }
 {
     let Some(setup) = parse_cluster(line) else {
         return Err(ScriptError::Bad {
@@ -88,7 +95,7 @@ fn take_cluster(alloc: Global, number: u64, line: &[u8]) -> Result<Progress, Scr
 }
 
 // Why the script ends at a line that is no event.
-fn unread(number: u64, error: LineError) -> ScriptError
+fn bad_line(number: u64, error: LineError) -> ScriptError
     ensures { (at : ℕ) (cause : Causes) → result ≡ ScriptError.Bad at cause → (error ≡ LineError.Cause cause) × (at ≡ number) }
 {
     match error {
@@ -101,8 +108,9 @@ fn unread(number: u64, error: LineError) -> ScriptError
 }
 
 // Why the script ends at an event that the world did not make.
-fn refused(number: u64, error: WorldError) -> ScriptError
-    ensures { (at : ℕ) (cause : Causes) → result ≡ ScriptError.Bad at cause → (error ≢ WorldError.Memory) × (at ≡ number) × (cause ≡ Cause.BadLine) }
+fn bad_event(number: u64, error: WorldError) -> ScriptError
+    ensures { (at : ℕ) (cause : Causes) → result ≡ ScriptError.Bad at cause → (error ≢ WorldError.Memory) × (at ≡ number)
+        × (cause ≡ Cause.BadLine) }
 {
     match error {
         WorldError::Memory => ScriptError::Memory,
@@ -122,17 +130,19 @@ fn take_event(
     line: &[u8],
 ) -> Result<Progress, ScriptError>
     requires { is_skipped line.now ≡ false }
-    ensures ok { IfOk result (λ next. (all rest : List (ℕ × List ℕ)) → Stands all ((number, line.now) ∷ rest) (Progress.Events cluster world) → Stands all rest next) }
-    ensures bad { (at : ℕ) (cause : Causes) → IsErrOf result (ScriptError.Bad at cause) → (all rest : List (ℕ × List ℕ)) → Stands all ((number, line.now) ∷ rest) (Progress.Events cluster world) → RefuseLine all at cause }
+    ensures ok { IfOk result (λ next. (all rest : List (ℕ × List ℕ)) →
+        Stands all ((number, line.now) ∷ rest) (Progress.Events cluster world) → Stands all rest next) }
+    ensures bad { (at : ℕ) (cause : Causes) → IsErrOf result (ScriptError.Bad at cause) → (all rest : List (ℕ × List ℕ)) →
+        Stands all ((number, line.now) ∷ rest) (Progress.Events cluster world) → RefuseLine all at cause }
 {
     let event = match parse_line(alloc, cluster, line) {
         Ok(Some(event)) => event,
         Ok(None) => return Ok(Progress::Events { cluster, world }),
-        Err(error) => return Err(unread(number, error)),
+        Err(error) => return Err(bad_line(number, error)),
     };
     match world.event(number, &event) {
         Ok(()) => Ok(Progress::Events { cluster, world }),
-        Err(error) => Err(refused(number, error)),
+        Err(error) => Err(bad_event(number, error)),
     }
 }
 
@@ -144,8 +154,10 @@ fn take_line(
     line: &[u8],
 ) -> Result<Progress, ScriptError>
     requires { is_skipped line.now ≡ false }
-    ensures ok { IfOk result (λ next. (all rest : List (ℕ × List ℕ)) → Stands all ((number, line.now) ∷ rest) progress → Stands all rest next) }
-    ensures bad { (at : ℕ) (cause : Causes) → IsErrOf result (ScriptError.Bad at cause) → (all rest : List (ℕ × List ℕ)) → Stands all ((number, line.now) ∷ rest) progress → RefuseLine all at cause }
+    ensures ok { IfOk result (λ next. (all rest : List (ℕ × List ℕ)) → Stands all ((number, line.now) ∷ rest) progress →
+        Stands all rest next) }
+    ensures bad { (at : ℕ) (cause : Causes) → IsErrOf result (ScriptError.Bad at cause) → (all rest : List (ℕ × List ℕ)) →
+        Stands all ((number, line.now) ∷ rest) progress → RefuseLine all at cause }
 {
     match progress {
         Progress::Header => take_header(number, line),

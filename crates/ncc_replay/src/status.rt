@@ -6,6 +6,8 @@ ghost use Rattle.ncc_replay.specs.StatusText.{number_of_status, text_of_cause, t
 use itoa::Buffer;
 use ncc_pack::Text;
 use std::alloc::{AllocError, Global};
+use std::error::Error;
+use std::fmt;
 
 /// Why a line of a script is refused.
 #[derive(Clone, Copy, Debug, PartialEq, Eq)]
@@ -37,6 +39,14 @@ pub enum Cause {
     /// The session is at work.
     Busy,
 }
+
+impl fmt::Display for Cause {
+    fn fmt<W: fmt::Write>(&self, f: &mut fmt::Formatter<W>) -> fmt::Result {
+        f.write_str(cause_text(*self))
+    }
+}
+
+impl Error for Cause {}
 
 /// A number that a script may not pass.
 #[derive(Clone, Copy, Debug, PartialEq, Eq)]

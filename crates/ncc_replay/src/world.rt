@@ -76,8 +76,8 @@ fn cluster_of(alloc: Global, setup: &Setup) -> Result<Cluster, AllocError>
 impl World {
     /// A cluster at the beginning of its run.
     pub fn new(alloc: Global, setup: &Setup) -> Result<World, AllocError>
-        requires { 1 ≤ setup.now.cores }
-        ensures { IfOk result (λ w. w ≡ Some (start_of setup.now)) }
+        requires some { 1 ≤ setup.now.cores }
+        ensures start { IfOk result (λ w. w ≡ Some (start_of setup.now)) }
     {
         let cluster = cluster_of(alloc, setup)?;
         Ok(World {
@@ -87,11 +87,13 @@ impl World {
         })
     }
 
-    /// One event, of this line of the script. A refusal leaves the world unchanged. After want of memory every
+    /// One event, of this line of the script. A refusal leaves the world unchanged. Once it was out of memory, every
     /// event answers `Memory`.
     pub fn event(&mut self, line: u64, event: &Event) -> Result<(), WorldError>
-        ensures ok { (r : Run) → self.old ≡ Some r → OnOk result ((refusal r event.now ≡ None) × (self.new ≡ Some (happens line event.now r))) }
-        ensures refused { (r : Run) (e : WorldErrors) → self.old ≡ Some r → IsErrOf result e → e ≢ WorldError.Memory → (refusal r event.now ≡ Some e) × (self.new ≡ self.old) }
+        ensures ok { (r : Run) → self.old ≡ Some r → OnOk result ((refusal r event.now ≡ None)
+            × (self.new ≡ Some (happens line event.now r))) }
+        ensures refused { (r : Run) (e : WorldErrors) → self.old ≡ Some r → IsErrOf result e → e ≢ WorldError.Memory →
+            (refusal r event.now ≡ Some e) × (self.new ≡ self.old) }
         ensures refuses { (r : Run) (e : WorldErrors) → self.old ≡ Some r → refusal r event.now ≡ Some e → IsErrOf result e }
         ensures memory { IsErrOf result WorldError.Memory → self.new ≡ None }
         ensures spent { self.old ≡ None → IsErrOf result WorldError.Memory }
@@ -114,7 +116,7 @@ impl World {
 
     /// Appends the report of the run.
     pub fn report(&self, into: &mut Bytes) -> Result<(), AllocError>
-        ensures { (r : Run) → self.now ≡ Some r → OnOk result (into.new ≡ into.old ++ report_of r) }
+        ensures appended { (r : Run) → self.now ≡ Some r → OnOk result (into.new ≡ into.old ++ report_of r) }
     {
         if self.spent {
             return Err(AllocError);
@@ -137,7 +139,8 @@ fn put_members(cores: u8, members: &[Member], into: &mut Bytes) -> Result<(), Al
 // The lines of the history, and the last line.
 #[tactic(auto, using(std::proofs::lemmas::List::append_assoc))]
 fn put_history(history: &[Item], into: &mut Bytes) -> Result<(), AllocError>
-    ensures { OnOk result (into.new ≡ into.old ++ (codes "history" ++ (spaced (length history.now) ++ (codes "\n" ++ (place_lines 1 history.now ++ codes "end\n"))))) }
+    ensures { OnOk result (into.new ≡
+        into.old ++ (codes "history" ++ (spaced (length history.now) ++ (codes "\n" ++ (place_lines 1 history.now ++ codes "end\n"))))) }
 {
     into.extend(b"history")?;
     put_number(history.len() as u64, into)?;

@@ -1,4 +1,4 @@
--- Addresses are texts: every value of the lists of members and of tables is one.
+-- Addresses are texts: every value of the lists of members and of tables is one (Bolt 4.4, ROUTE).
 use Rattle.std.specs.Prelude.{Bool, true, false, ◌&&◌, List}
 use Rattle.std.specs.List.{list_all}
 use Rattle.ncc_pack.specs.declared.value.Value.{Value}

@@ -23,7 +23,7 @@ pub enum Auth {
 impl Auth {
     /// An equal value, on the same allocators.
     pub fn copy(&self) -> Result<Auth, AllocError>
-        ensures { IfOk result (λ copy. copy ≡ self.now) }
+        ensures equal { IfOk result (λ copy. copy ≡ self.now) }
     {
         match self {
             Auth::Nobody => Ok(Auth::Nobody),

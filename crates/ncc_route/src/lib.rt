@@ -4,8 +4,6 @@
 mod auth;
 mod members;
 mod table;
-#[cfg(test)]
-mod tests;
 
 pub use auth::Auth;
 pub use members::Members;

@@ -3,7 +3,7 @@
 ghost use Rattle.std.specs.Prelude.{◌≡◌, IfOk};
 ghost use Rattle.ncc_route.specs.Addresses.{is_text, texts_alone, members_are_texts};
 
-use ncc_pack::{Value, Values, copy_values};
+use ncc_pack::{Value, Values};
 use std::alloc::AllocError;
 
 /// The addresses of a cluster's members, each a text. Members are numbered from 1, the cores first, then the replicas.
@@ -20,19 +20,19 @@ pub struct Members {
 impl Members {
     /// Says whether every address is a text, which `table_of` wants. It takes no memory.
     pub fn texts_alone(&self) -> bool
-        ensures { result ≡ members_are_texts self.now }
+        ensures texts { result ≡ members_are_texts self.now }
     {
         are_texts(&self.cores) && are_texts(&self.replicas)
     }
 
     /// An equal value, on the same allocators.
     pub fn copy(&self) -> Result<Members, AllocError>
-        ensures { IfOk result (λ copy. copy ≡ self.now) }
+        ensures equal { IfOk result (λ copy. copy ≡ self.now) }
     {
         Ok(Members {
             cluster: self.cluster,
-            cores: copy_values(&self.cores)?,
-            replicas: copy_values(&self.replicas)?,
+            cores: self.cores.copy()?,
+            replicas: self.replicas.copy()?,
         })
     }
 }

@@ -6,7 +6,7 @@ ghost use Rattle.ncc_route.specs.Addresses.{members_are_texts, table_is_texts};
 ghost use Rattle.ncc_route.specs.Routing.{table, leading, following, readers, addresses, picked, ends};
 
 use crate::members::{Members, are_texts};
-use ncc_pack::{Sequence, Text, Value, Values, copy_values};
+use ncc_pack::{Sequence, Text, Value, Values};
 use std::alloc::{AllocError, Global};
 use std::fmt;
 use thiserror::Error;
@@ -64,7 +64,7 @@ pub fn table_of(
     now: u64,
     ttl: u64,
 ) -> Result<Table, AllocError>
-    requires { IsTrue (members_are_texts members.now) }
+    requires texts { IsTrue (members_are_texts members.now) }
     ensures table { IfOk result (λ t. t ≡ table members.now leader now ttl) }
     ensures times { IfOk result (λ t. (t.got ≡ now) × (t.ttl ≡ ttl)) }
     ensures write { IfOk result (λ t. t.write ≡ leading leader members.now.cores) }
@@ -76,7 +76,7 @@ pub fn table_of(
 {
     let write = leading_core(alloc, &members.cores, leader)?;
     let read = reading_members(alloc, members, leader)?;
-    let route = copy_values(&members.cores)?;
+    let route = members.cores.copy()?;
     Ok(Table {
         got: now,
         ttl,
@@ -142,7 +142,7 @@ impl Table {
     /// Says whether the table may still be used at the moment `now`, in milliseconds: its time is not yet up. A sum
     /// past the greatest moment stays there. It takes no memory.
     pub fn fresh(&self, now: u64) -> bool
-        ensures { IsTrue result ↔ (now < ends self.now) }
+        ensures until { IsTrue result ↔ (now < ends self.now) }
     {
         now < self.got.saturating_add(self.ttl)
     }
@@ -150,7 +150,7 @@ impl Table {
     /// The address for a role that a word picks: the one whose place, from 0, is the word modulo how many there are.
     /// It takes no memory.
     pub fn pick(&self, role: Role, word: u32) -> Result<&Text, NoServer>
-        requires { IsTrue (table_is_texts self.now) }
+        requires texts { IsTrue (table_is_texts self.now) }
         ensures ok { IfOk result (λ address. picked word (addresses role self.now) ≡ Some (v.Text address.now)) }
         ensures none { IsErr result ↔ (addresses role self.now ≡ []) }
         ensures same_role { IfErr result (λ error. error.role ≡ role) }
@@ -177,21 +177,21 @@ impl Table {
 
     /// Says whether every address is a text, which `pick` wants. It takes no memory.
     pub fn texts_alone(&self) -> bool
-        ensures { result ≡ table_is_texts self.now }
+        ensures texts { result ≡ table_is_texts self.now }
     {
         are_texts(&self.write) && are_texts(&self.read) && are_texts(&self.route)
     }
 
     /// An equal value, on the same allocators.
     pub fn copy(&self) -> Result<Table, AllocError>
-        ensures { IfOk result (λ copy. copy ≡ self.now) }
+        ensures equal { IfOk result (λ copy. copy ≡ self.now) }
     {
         Ok(Table {
             got: self.got,
             ttl: self.ttl,
-            write: copy_values(&self.write)?,
-            read: copy_values(&self.read)?,
-            route: copy_values(&self.route)?,
+            write: self.write.copy()?,
+            read: self.read.copy()?,
+            route: self.route.copy()?,
         })
     }
 }

@@ -1,25 +1,23 @@
-//! The law of a stream that comes in any pieces, for each machine that reads one.
+//! The laws of an input that comes in any pieces, for each machine that reads one. A machine has a core of a type `C`, takes
+//! items of a type `E` and facts of a type `F`, and writes outputs of a type `W`.
 #![tactic(auto)]
 
-#[cfg(test)]
-mod tests;
+ghost use Rattle.ncc_stream.specs.Laws.{CutsDontMatter, WaitsWithoutMove, GoesByMoves, ComesToRest, NeverRises};
 
-ghost use Rattle.std.specs.Prelude.{◌≡◌, ℕ, ◌≤◌, List, Option, Some, None, ◌++◌};
-ghost use Rattle.ncc_stream.specs.Stream.{Move, IsLawful, Stand, going, going_on, behind, still};
-
-/// However a stream is cut: what a lawful machine makes of it is what it makes of the front, and then of what it left of the
+/// However the input is cut: what a lawful machine makes of it is what it makes of the front, and then of what it left of the
 /// front with the rest behind.
-pub fn goes_on<C, F>()
-    ensures { (move : Move C F) → IsLawful move → (c : C) (bs x : List ℕ) (fs g : List F) → going move c (bs ++ x) (fs ++ g) ≡ going_on move (going move c bs fs) x g }
+pub fn goes_on<C, E, F, W>()
+    ensures cuts_dont_matter { CutsDontMatter C E F W }
 {}
 
-/// A lawful machine goes on by its next move, as long as it has one.
-pub fn one_move<C, F>()
-    ensures waits { (move : Move C F) → IsLawful move → (c : C) (bs : List ℕ) (fs : List F) → move c bs fs ≡ None → going move c bs fs ≡ still c bs fs }
-    ensures moves { (move : Move C F) → IsLawful move → (c : C) (bs : List ℕ) (fs : List F) (t : Stand C F) → move c bs fs ≡ Some t → going move c bs fs ≡ behind t.written (going move t.core t.bytes t.facts) }
+/// A lawful machine goes on by its next move, as long as it has one, and in the end it has none.
+pub fn one_move<C, E, F, W>()
+    ensures waits { WaitsWithoutMove C E F W }
+    ensures moves { GoesByMoves C E F W }
+    ensures rests { ComesToRest C E F W }
 {}
 
-/// What falls with each move of a machine is no more in the end.
-pub fn never_rises<C, F>()
-    ensures { (move : Move C F) → IsLawful move → (weight : C → List ℕ → ℕ) → ((c : C) (bs : List ℕ) (fs : List F) (t : Stand C F) → move c bs fs ≡ Some t → weight t.core t.bytes ≤ weight c bs) → (c : C) (bs : List ℕ) (fs : List F) → weight (going move c bs fs).core (going move c bs fs).bytes ≤ weight c bs }
+/// What falls with each move of a lawful machine is no more in the end.
+pub fn never_rises<C, E, F, W>()
+    ensures never_rises { NeverRises C E F W }
 {}

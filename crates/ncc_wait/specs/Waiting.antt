@@ -1,7 +1,7 @@
 -- What becomes of a wait, as a function that other definitions can compute with.
 use Rattle.std.specs.Prelude.{ℕ, nat_lt, nat_le, if◌then◌else◌}
-use Rattle.ncc_wait.specs.declared.ends.Outcome.{Outcome}
-use Rattle.ncc_wait.specs.declared.ends.Outcome.TheVariants.{Ready, NotYet, Late}
+use Rattle.ncc_wait.specs.declared.outcomes.Outcome.{Outcome}
+use Rattle.ncc_wait.specs.declared.outcomes.Outcome.TheVariants.{Ready, NotYet, Late}
 
 -- a wait for a place at a member that has applied so many places, at this moment, with this deadline
 abbrev pub outcome_of : ℕ → ℕ → ℕ → ℕ → Outcome

@@ -1,10 +1,8 @@
 //! Waits for a place of the history, with a deadline.
 #![tactic(auto)]
 
-mod ends;
-mod judge;
-#[cfg(test)]
-mod tests;
+mod outcome_at;
+mod outcomes;
 
-pub use ends::Outcome;
-pub use judge::outcome;
+pub use outcome_at::outcome;
+pub use outcomes::Outcome;

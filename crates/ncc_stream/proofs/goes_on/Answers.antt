@@ -2,4 +2,4 @@ use Rattle.ncc_stream.proofs.Going.{goes_on}
 use Rattle.ncc_stream.proofs.goes_on.Goals as goal
 
 pub returns : goal.returns
-returns r c = λ move lawful core bs x fs g. goes_on move lawful core bs x fs g
+returns r c = record { cuts_dont_matter = λ move lawful core xs ys fs gs. goes_on move lawful core xs ys fs gs }

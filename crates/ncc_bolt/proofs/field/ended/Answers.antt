@@ -16,4 +16,7 @@ left_at total at (b ∷ bytes) lt len =
     ap (λ (k : ℕ). refused (Rest k)) is
 
 pub returns-then-at-message : goal.returns-then-at-message
-returns-then-at-message c = left_at (length c.args.message.now) c.args.at (drop c.args.at c.args.message.now) c.if-at-message.true (length-drop c.args.at c.args.message.now)
+returns-then-at-message c = record {
+  exact = left_at (length c.args.message.now) c.args.at (drop c.args.at c.args.message.now) c.if-at-message.true
+      (length-drop c.args.at c.args.message.now);
+}

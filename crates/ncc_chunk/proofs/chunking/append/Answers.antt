@@ -18,8 +18,15 @@ loop-left-preserved c =
     let next = c.in_ok-append_chunk.ensures.ok in
     record {
       some = omega arith;
-      kept = begins_then c.args.into.now c.loop-left.into c.append_chunk.new.into c.loop-left.invariant.kept (chunk_of c.split_at.result.0.now, next);
-      whole = rw (next, cut.front, back, append_assoc c.loop-left.into (chunk_of (take 65535 left)) (chunks_of (drop 65535 left)), ← chunks_more left (omega arith)) c.loop-left.invariant.whole;
+      kept = begins_then c.args.into.now c.loop-left.into c.append_chunk.new.into c.loop-left.invariant.kept
+          (chunk_of c.split_at.result.0.now, next);
+      whole = rw (
+        next,
+        cut.front,
+        back,
+        append_assoc c.loop-left.into (chunk_of (take 65535 left)) (chunks_of (drop 65535 left)),
+        ← chunks_more left (omega arith),
+      ) c.loop-left.invariant.whole;
     }
 
 pub returns-clause-ok : goal.returns-clause-ok
@@ -29,4 +36,5 @@ returns-clause-ok c =
     let whole = c.loop-left.invariant.whole in
     let chunks = chunks_last left (omega arith) in
     on_ok_weaker _ (λ (e : c.extend.new.self ≡ c.append_chunk-2.new.into ++ 0 ∷ 0 ∷ []). (
-    e ∙ ap (λ v. v ++ 0 ∷ 0 ∷ []) (last ∙ ap (λ v. c.loop-left.into ++ v) (sym chunks) ∙ whole) ∙ append_assoc c.args.into.now (chunks_of c.args.message.now) (0 ∷ 0 ∷ []))) c.extend.ensures.ok
+    e ∙ ap (λ v. v ++ 0 ∷ 0 ∷ []) (last ∙ ap (λ v. c.loop-left.into ++ v) (sym chunks) ∙ whole)
+    ∙ append_assoc c.args.into.now (chunks_of c.args.message.now) (0 ∷ 0 ∷ []))) c.extend.ensures.ok

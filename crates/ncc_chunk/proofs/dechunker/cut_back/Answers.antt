@@ -5,7 +5,8 @@ use Rattle.std.proofs.lemmas.List.{map-append, take-map, length-map}
 use Rattle.ncc_chunk.proofs.dechunker.cut_back.Goals as goal
 
 -- the last of those that were left
-last_left : {V : Type 0} (f : V → List ℕ) (count : ℕ) (before left after : List V) (last : Option V) → left ≡ take (count + 1) before → left ≡ after ++ option_to_list last → count < length before
+last_left : {V : Type 0} (f : V → List ℕ) (count : ℕ) (before left after : List V) (last : Option V) →
+    left ≡ take (count + 1) before → left ≡ after ++ option_to_list last → count < length before
     → IfSome last (λ first. (take (count + 1) (map f before) ≡ map f after ++ f first ∷ []) × (count < length (map f before)))
 last_left f count before left after None e g h = tt
 last_left f count before left after (Some x) e g h =

@@ -9,22 +9,22 @@ use Rattle.ncc_cypher.specs.Scan.{token_at, read, RestIsText}
 use Rattle.ncc_cypher.specs.Machine.{step}
 use Rattle.ncc_cypher.specs.Marks.{mark_more}
 use Rattle.ncc_cypher.specs.Spelled.{Stopped}
-use Rattle.ncc_cypher.proofs.Answered.{Reached, reached_none, reached_more, is_unexpected, is_ended, shorter, gap_front, own_front, place_is}
+use Rattle.ncc_cypher.proofs.Answered.{Reading, reading_none, reading_more, is_unexpected, is_ended, shorter, gap_front, own_front, place_is}
 use Rattle.ncc_cypher.proofs.reading.read.Goals as goal
 
 pub loop-state-init : goal.loop-state-init
-loop-state-init c = record { reached = subst (λ (z : Marks). Reached c.args.source.now c.args.source.now s.Start z) (sym c.new-marks.ensures) (reached_none c.args.source.now); text = c.utf8.source }
+loop-state-init c = record { reading = subst (λ (z : Marks). Reading c.args.source.now c.args.source.now s.Start z) (sym c.new-marks.ensures) (reading_none c.args.source.now); text = c.utf8.source }
 
 pub overflow_sub-at : goal.overflow_sub-at
 overflow_sub-at c =
-    let r = c.loop-state.invariant.reached in
+    let r = c.loop-state.invariant.reading.reached in
     let p = place_is c.args.source.now c.loop-state.rest.now r.placed r.tokens in
     omega (arith, p, ap length c.past_blanks-from.ensures)
 
 pub returns-in-None : goal.returns-in-None
 returns-in-None c =
     let e : token_at (past_blanks c.loop-state.rest.now) ≡ None = ap token_at (sym c.past_blanks-from.ensures) ∙ sym c.in_ok-token_at.ensures.token ∙ ap read c.in-None.is in
-    is_ended c.args.source.now c.loop-state.rest.now c.loop-state.state c.loop-state.marks c.is_empty.result _ c.ended.result c.loop-state.invariant.reached e (c.is_empty.ensures ∙ ap (λ (z : List ℕ). length z == 0) c.past_blanks-from.ensures) (ap (λ (z : List ℕ). length c.args.source.now - length z) c.past_blanks-from.ensures) c.ended.ensures
+    is_ended c.args.source.now c.loop-state.rest.now c.loop-state.state c.loop-state.marks c.is_empty.result _ c.ended.result c.loop-state.invariant.reading e (c.is_empty.ensures ∙ ap (λ (z : List ℕ). length z == 0) c.past_blanks-from.ensures) (ap (λ (z : List ℕ). length c.args.source.now - length z) c.past_blanks-from.ensures) c.ended.ensures
 
 pub before-gap-requires : goal.before-gap-requires
 before-gap-requires c =
@@ -41,7 +41,7 @@ returns-in-None-2 c =
     let e : token_at (past_blanks c.loop-state.rest.now) ≡ Some (c.in-Some.token, c.in-Some.after.now) = ap token_at (sym c.past_blanks-from.ensures) ∙ sym c.in_ok-token_at.ensures.token ∙ ap read c.in-Some.is in
     let f : step c.loop-state.state c.in-Some.token ≡ None = sym c.in_ok-next-in-Some.ensures ∙ c.in-None-2.is in
     subst (λ (z : List ℕ). Stopped c.args.source.now (length c.args.source.now - length z) Unexpected) (sym c.past_blanks-from.ensures)
-    (is_unexpected c.args.source.now c.loop-state.rest.now c.in-Some.after.now c.loop-state.state c.loop-state.marks c.in-Some.token c.loop-state.invariant.reached e f)
+    (is_unexpected c.args.source.now c.loop-state.rest.now c.in-Some.after.now c.loop-state.state c.in-Some.token c.loop-state.invariant.reading.reached e f)
 
 pub loop-state-smaller : goal.loop-state-smaller
 loop-state-smaller c =
@@ -57,6 +57,6 @@ loop-state-preserved c =
     c.in_ok-marks-in-Some.ensures ∙ ap (λ (z : List ℕ). mark_more c.loop-state.marks c.in-Some.token z c.before-own.result.now) c.before-gap.ensures
     ∙ ap (λ (z : List ℕ). mark_more c.loop-state.marks c.in-Some.token (between c.loop-state.rest.now c.in-Some.after.now) z) own in
     record {
-      reached = subst (λ (z : Marks). Reached c.args.source.now c.in-Some.after.now c.in-Some-2.next z) (sym m) (reached_more c.args.source.now c.loop-state.rest.now c.in-Some.after.now c.loop-state.state c.in-Some-2.next c.loop-state.marks c.in-Some.token c.loop-state.invariant.reached e f);
+      reading = subst (λ (z : Marks). Reading c.args.source.now c.in-Some.after.now c.in-Some-2.next z) (sym m) (reading_more c.args.source.now c.loop-state.rest.now c.in-Some.after.now c.loop-state.state c.in-Some-2.next c.loop-state.marks c.in-Some.token c.loop-state.invariant.reading e f);
       text = subst RestIsText c.in-Some.is c.in_ok-token_at.ensures.rest;
     }

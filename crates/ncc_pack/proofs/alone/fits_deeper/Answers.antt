@@ -2,4 +2,4 @@ use Rattle.ncc_pack.proofs.Deeper.{deeper}
 use Rattle.ncc_pack.proofs.alone.fits_deeper.Goals as goal
 
 pub returns : goal.returns
-returns c = deeper
+returns c = record { deeper = deeper }

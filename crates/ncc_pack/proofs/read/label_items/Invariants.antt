@@ -4,4 +4,5 @@ use Rattle.ncc_pack.proofs.Lists.{with_front}
 use Rattle.ncc_pack.proofs.read.label_items.Given as goal
 
 abbrev pub invariant-loop : goal.invariant-loop
-invariant-loop l = with_front l.labels (items_at (label_at l.total) (l.count - l.counter) l.rest) ≡ items_at (label_at l.total) l.count l.bytes
+invariant-loop l = with_front l.labels.items (items_at (label_at l.total) (l.count - l.counter) l.rest)
+    ≡ items_at (label_at l.total) l.count l.bytes

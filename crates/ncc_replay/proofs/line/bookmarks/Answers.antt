@@ -11,5 +11,6 @@ returns-in-Err-clause-bad c = λ cause h.
     let front = bookmark_words c.loop-rest.read in (
       bad.0,
       λ b f. bad_bookmark c.args.cluster c.loop-rest.read b c.cut.result.0.now (words_in c.cut.result.1) bad.1 f.0
-          (sym f.1 ∙ (c.loop-rest.invariant.words ∙ (ap (λ r. front ++ words_in r) c.in-Some.is ∙ ap (λ l. front ++ l) c.cut.ensures.words))),
+          (sym f.1 ∙ (c.loop-rest.invariant.words ∙ (ap (λ r. front ++ words_in r) c.in-Some.is
+          ∙ ap (λ l. front ++ l) c.cut.ensures.words))),
     )

@@ -6,7 +6,8 @@ use Rattle.ncc_replay.proofs.line.cut.Goals as goal
 
 pub returns-in-Some-clause-words : goal.returns-in-Some-clause-words
 returns-in-Some-clause-words c =
-    (cut_some c.args.line.now c.in-Some.end (sym c.in-Some.ensures)).1 ∙ ap (λ l. take c.in-Some.end c.args.line.now ∷ words_between l) (sym (take_rest c.args.line.now (c.in-Some.end + 1)))
+    (cut_some c.args.line.now c.in-Some.end (sym c.in-Some.ensures)).1
+    ∙ ap (λ l. take c.in-Some.end c.args.line.now ∷ words_between l) (sym (take_rest c.args.line.now (c.in-Some.end + 1)))
 
 pub returns-in-None-clause-words : goal.returns-in-None-clause-words
 returns-in-None-clause-words c = cut_none c.args.line.now (sym c.in-None.ensures)

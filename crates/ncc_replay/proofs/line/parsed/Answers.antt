@@ -9,4 +9,5 @@ returns-in_default c = λ n h e. absurd (c.in_default.ensures.cases.0 (decimal_u
 
 pub returns : goal.returns
 returns c = λ n h e.
-    c.ok.ensures.value ∙ ap result_ok (parse-decimal 64 n c.in-Ok.text.now c.parse.result h h (c.in-Ok.ensures.cases.0 ∙ e) c.parse.ensures.value.0)
+    c.ok.ensures.value ∙ ap result_ok (parse-decimal 64 n c.in-Ok.text.now c.parse.result h h (c.in-Ok.ensures.cases.0
+    ∙ e) c.parse.ensures.value.0)

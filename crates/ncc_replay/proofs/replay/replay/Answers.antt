@@ -8,17 +8,19 @@ use Rattle.ncc_replay.proofs.replay.replay.Goals as goal
 
 pub returns-in-Err-report-clause-completes : goal.returns-in-Err-report-clause-completes
 returns-in-Err-report-clause-completes g c = λ text s given within script.
-    let same : text ≡ c.in-Ok.text.items = read_is (g.S.Source.left c.args.input.now) (g.S.Source.left c.read_all.new.input) text c.in-Ok.text.items given.holds c.in-Ok.ensures.ok in
+    let same : text ≡ c.in-Ok.text.items = read_is (g.S.Source.left c.args.input.now)
+    (g.S.Source.left c.read_all.new.input) text c.in-Ok.text.items given.holds c.in-Ok.ensures.ok in
     let there : text ≡ c.as_slice.result.now = same ∙ sym c.as_slice.ensures.value in
-    subst (λ x. MayEnd x Done) (sym c.refused.ensures)
+    subst (λ x. MayEnd x Done) (sym c.status_of_script.ensures)
     (completes_error c.as_slice.result.now s c.in-Err-report.error (subst (λ t. IsScript t s) there script)
     (λ line cause e. c.in-Err-report.ensures.bad line cause (ap Err e)))
 
 pub returns-in-Err-report-clause-refuses : goal.returns-in-Err-report-clause-refuses
 returns-in-Err-report-clause-refuses g c = λ text line cause given within script.
-    let same : text ≡ c.in-Ok.text.items = read_is (g.S.Source.left c.args.input.now) (g.S.Source.left c.read_all.new.input) text c.in-Ok.text.items given.holds c.in-Ok.ensures.ok in
+    let same : text ≡ c.in-Ok.text.items = read_is (g.S.Source.left c.args.input.now)
+    (g.S.Source.left c.read_all.new.input) text c.in-Ok.text.items given.holds c.in-Ok.ensures.ok in
     let there : text ≡ c.as_slice.result.now = same ∙ sym c.as_slice.ensures.value in
-    subst (λ x. MayEnd x (BadScript line cause)) (sym c.refused.ensures)
+    subst (λ x. MayEnd x (BadScript line cause)) (sym c.status_of_script.ensures)
     (refuses_error c.as_slice.result.now line cause c.in-Err-report.error (subst (λ t. IsNoScript t line cause) there script)
     (λ at k e. c.in-Err-report.ensures.bad at k (ap Err e)))
 
@@ -36,7 +38,8 @@ returns-clause-nobody_is_forgotten g c = λ _ s reads setup e. (script_headline 
 
 pub returns-clause-refuses : goal.returns-clause-refuses
 returns-clause-refuses g c = λ text line cause given within script.
-    let same : text ≡ c.in-Ok.text.items = read_is (g.S.Source.left c.args.input.now) (g.S.Source.left c.read_all.new.input) text c.in-Ok.text.items given.holds c.in-Ok.ensures.ok in
+    let same : text ≡ c.in-Ok.text.items = read_is (g.S.Source.left c.args.input.now)
+    (g.S.Source.left c.read_all.new.input) text c.in-Ok.text.items given.holds c.in-Ok.ensures.ok in
     let there : text ≡ c.as_slice.result.now = same ∙ sym c.as_slice.ensures.value in
     let run : (s : _) × IsScript c.as_slice.result.now s × _ = c.in-Ok-report.ensures.ok in
     absurd (never_both c.as_slice.result.now run.0 line cause run.1 (subst (λ t. IsNoScript t line cause) there script))

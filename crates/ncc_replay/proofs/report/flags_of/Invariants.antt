@@ -4,4 +4,5 @@ use Rattle.ncc_replay.proofs.report.flags_of.Given as goal
 
 -- the flags say what the connections seen so far say
 abbrev pub invariant-loop-conn : goal.invariant-loop-conn
-invariant-loop-conn l = (vec_len l.flags ≡ l.count) × ((k : ℕ) → k < l.count → get_or l.flags.items k false ≡ is_waiting (take l.conn-index l.live) (k + 1))
+invariant-loop-conn l = (vec_len l.flags ≡ l.count) × ((k : ℕ) → k < l.count →
+    get_or l.flags.items k false ≡ is_waiting (take l.conn-index l.live) (k + 1))

@@ -7,7 +7,8 @@ use Rattle.ncc_replay.proofs.script.cut_line.Goals as goal
 pub returns-in-Some-clause-lines : goal.returns-in-Some-clause-lines
 returns-in-Some-clause-lines c =
     line_at c.args.text.now c.in-Some.at (sym c.in-Some.ensures)
-    ∙ ap (λ l. take c.in-Some.at c.args.text.now ∷ lines_of l) (ap (λ n. drop n c.args.text.now) (sym (add-one c.in-Some.at)) ∙ sym (take_rest c.args.text.now (c.in-Some.at + 1)))
+    ∙ ap (λ l. take c.in-Some.at c.args.text.now ∷ lines_of l) (ap (λ n. drop n c.args.text.now) (sym (add-one c.in-Some.at))
+    ∙ sym (take_rest c.args.text.now (c.in-Some.at + 1)))
 
 pub returns-in-None-clause-lines : goal.returns-in-None-clause-lines
 returns-in-None-clause-lines c =

@@ -5,7 +5,10 @@ use Rattle.ncc_replay.proofs.script.run_script.Given as goal
 
 -- what is read makes what it makes, and the lines behind it count on
 abbrev pub invariant-lines : goal.invariant-lines
-invariant-lines l = record { stands : Stands (kept_lines l.text) (kept_from (l.number + 1) l.rest) l.progress; counted : l.number + length l.rest ≤ length l.text }
+invariant-lines l = record {
+  stands : Stands (kept_lines l.text) (kept_from (l.number + 1) l.rest) l.progress;
+  counted : l.number + length l.rest ≤ length l.text;
+}
 
 abbrev pub decreases-lines : goal.decreases-lines
 decreases-lines l = length l.rest

@@ -9,12 +9,32 @@ use Rattle.ncc_replay.proofs.world.cluster_of.Goals as goal
 
 pub returns-clause-run : goal.returns-clause-run
 returns-clause-run c =
-    let made : Cluster = record { clock = 0; wait = c.args.setup.now.wait; cores = c.args.setup.now.cores; members = c.in_ok-members.members; history = c.new.result; opened = c.new-2.result; live = c.new-3.result; told = c.new-4.result } in
+    let made : Cluster = record {
+      clock = 0;
+      wait = c.args.setup.now.wait;
+      cores = c.args.setup.now.cores;
+      members = c.in_ok-members.members;
+      history = c.new.result;
+      opened = c.new-2.result;
+      live = c.new-3.result;
+      told = c.new-4.result;
+    } in
     run_same (run_in made) (start_of c.args.setup.now) refl refl refl
-    (ap (λ (h : List Item). map (λ m. take m.at h) c.in_ok-members.members.items) c.new.ensures.items ∙ new_lists c.in_ok-members.members.items (c.args.setup.now.cores + c.args.setup.now.replicas) c.in_ok-members.ensures)
+    (ap (λ (h : List Item). map (λ m. take m.at h) c.in_ok-members.members.items) c.new.ensures.items
+    ∙ new_lists c.in_ok-members.members.items (c.args.setup.now.cores + c.args.setup.now.replicas) c.in_ok-members.ensures)
     c.new.ensures.items c.new-2.ensures.items c.new-3.ensures.items c.new-4.ensures.items
 
 pub returns-clause-kept : goal.returns-clause-kept
 returns-clause-kept c =
-    let made : Cluster = record { clock = 0; wait = c.args.setup.now.wait; cores = c.args.setup.now.cores; members = c.in_ok-members.members; history = c.new.result; opened = c.new-2.result; live = c.new-3.result; told = c.new-4.result } in
-    new_kept made (c.args.setup.now.cores + c.args.setup.now.replicas) (omega arith) c.in_ok-members.ensures c.new.ensures.items c.new-3.ensures.items
+    let made : Cluster = record {
+      clock = 0;
+      wait = c.args.setup.now.wait;
+      cores = c.args.setup.now.cores;
+      members = c.in_ok-members.members;
+      history = c.new.result;
+      opened = c.new-2.result;
+      live = c.new-3.result;
+      told = c.new-4.result;
+    } in
+    new_kept made (c.args.setup.now.cores + c.args.setup.now.replicas)
+    (omega arith) c.in_ok-members.ensures c.new.ensures.items c.new-3.ensures.items

@@ -5,4 +5,5 @@ use Rattle.ncc_replay.proofs.world.put_members.Given as goal
 -- what is written and the lines of what is left are all the lines
 abbrev pub invariant-loop-index : goal.invariant-loop-index
 invariant-loop-index l =
-    l.into ++ lines_of_places l.cores (l.index + 1) (map (λ m. m.at) (drop l.index l.members)) ≡ l.fn.into ++ lines_of_places l.cores 1 (map (λ m. m.at) l.members)
+    l.into ++ lines_of_places l.cores (l.index + 1) (map (λ m. m.at) (drop l.index l.members)) ≡
+    l.fn.into ++ lines_of_places l.cores 1 (map (λ m. m.at) l.members)

@@ -6,7 +6,9 @@ use Rattle.ncc_chunk.proofs.Lists.{restored_same, restored_more}
 use Rattle.ncc_chunk.proofs.dechunker.Dechunker.restore.Goals as goal
 use Rattle.ncc_chunk.proofs.dechunker.Dechunker.restore.Goals.{in-Some, in_default}
 
-same_state : (place : Place) (qs rs : List (List ℕ)) (a b : List ℕ) → qs ≡ rs → a ≡ b → (let s : Inflow = record { ready = qs; body = a; place = place } in let t : Inflow = record { ready = rs; body = b; place = place } in s ≡ t)
+same_state : (place : Place) (qs rs : List (List ℕ)) (a b : List ℕ) → qs ≡ rs → a ≡ b →
+    (let s : Inflow = record { ready = qs; body = a; place = place } in
+    let t : Inflow = record { ready = rs; body = b; place = place } in s ≡ t)
 same_state place qs rs a b e f = cc
 
 pub returns : goal.returns

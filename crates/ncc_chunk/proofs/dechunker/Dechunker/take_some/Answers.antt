@@ -16,8 +16,12 @@ returns-in-Between-clause-ok c = rw (take_first c.args.piece.now c.requires, ←
 pub returns-in-InBody-clause-ok : goal.returns-in-InBody-clause-ok
 returns-in-InBody-clause-ok c =
     let place = sym (ap (λ (s : Inflow). s.place) c.self.view_is) ∙ c.in-InBody.is in
-    IfOk-weaker _ _ _ (λ (n : ℕ) (k : (n ≤ c.in-InBody.left) × (c.take_body.new.self ≡ grown c.args.self.now c.in-InBody.left (take n c.args.piece.now))). rw (k.1) (step_body c.args.self.now c.in-InBody.left (take n c.args.piece.now) place (let l = length-take n c.args.piece.now in let m = k.0 in omega arith))) c.take_body.ensures.ok
+    IfOk-weaker _ _ _ (λ (n : ℕ) (k : (n ≤ c.in-InBody.left)
+    × (c.take_body.new.self ≡ grown c.args.self.now c.in-InBody.left (take n c.args.piece.now))). rw (k.1)
+    (step_body c.args.self.now c.in-InBody.left (take n c.args.piece.now) place (let l = length-take n c.args.piece.now in
+    let m = k.0 in omega arith))) c.take_body.ensures.ok
 
 pub returns-in-Stopped-clause-ok : goal.returns-in-Stopped-clause-ok
 returns-in-Stopped-clause-ok c =
-    rw (take-length c.args.piece.now) (step_stopped c.args.self.now c.args.piece.now (sym (ap (λ (s : Inflow). s.place) c.self.view_is) ∙ c.in-Stopped.is))
+    rw (take-length c.args.piece.now) (step_stopped c.args.self.now c.args.piece.now
+    (sym (ap (λ (s : Inflow). s.place) c.self.view_is) ∙ c.in-Stopped.is))

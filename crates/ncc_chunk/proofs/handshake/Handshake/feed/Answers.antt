@@ -1,4 +1,5 @@
-use Rattle.std.proofs.Common.{◌≡◌, ◌+◌, ◌++◌, ◌∷◌, [], ℕ, List, length, take, drop, get_or, refl, sym, ap, ◌∙◌, append_assoc, append-nil, arith}
+use Rattle.std.proofs.Common.{◌≡◌, ◌+◌, ◌++◌, ◌∷◌, [], ℕ, List, length, take, drop, get_or, refl, sym, ap, ◌∙◌, append_assoc}
+use Rattle.std.proofs.Common.{append-nil, arith}
 use Rattle.std.proofs.Math.Seq.{take-length}
 use Rattle.std.proofs.lemmas.List.{take_more, take-append-drop}
 use Rattle.ncc_chunk.specs.declared.handshake.Shake.TheVariants.{More}
@@ -30,12 +31,14 @@ loop-i-preserved c =
     let more : answer_to c.loop-i.self ≡ More = sym c.answer.ensures ∙ c.in-More.is in
     let next : take (i + 1) piece ≡ take i piece ++ byte ∷ [] = take_more piece i 0 c.loop-i-test.true in
     record {
-      taken = c.push.ensures ∙ ap (λ v. v ++ byte ∷ []) inv.taken ∙ append_assoc old (take i piece) (byte ∷ []) ∙ ap (λ v. old ++ v) (sym next);
+      taken = c.push.ensures ∙ ap (λ v. v ++ byte ∷ []) inv.taken ∙ append_assoc old (take i piece) (byte ∷ [])
+          ∙ ap (λ v. old ++ v) (sym next);
       handshake = λ stream e. (
           let same = inv.handshake stream e in
           let whole = whole_where_more (stream ++ take i piece) (ap answer_to (sym same) ∙ more) in
           c.push.ensures ∙ sym (one_more c.loop-i.self byte more)
-          ∙ ap handshake_of (ap (λ v. v ++ byte ∷ []) (same ∙ whole) ∙ append_assoc stream (take i piece) (byte ∷ []) ∙ ap (λ v. stream ++ v) (sym next)));
+          ∙ ap handshake_of (ap (λ v. v ++ byte ∷ []) (same ∙ whole) ∙ append_assoc stream (take i piece) (byte ∷ [])
+          ∙ ap (λ v. stream ++ v) (sym next)));
       settled = λ h. absurd (h (ap answer_to (sym (untaken old c.loop-i.self piece i inv.taken (inv.settled h))) ∙ more));
     }
 
@@ -51,7 +54,8 @@ returns-in_default c =
       answer = c.answer.ensures;
       handshake = λ stream e. (
           let same = inv.handshake stream e in
-          same ∙ sym (same_where_settled (stream ++ take i piece) (drop i piece) (λ m. c.in_default.not-More (c.answer.ensures ∙ ap answer_to same ∙ m)))
+          same ∙ sym (same_where_settled (stream ++ take i piece) (drop i piece) (λ m. c.in_default.not-More (c.answer.ensures
+          ∙ ap answer_to same ∙ m)))
           ∙ ap handshake_of (append_assoc stream (take i piece) (drop i piece) ∙ ap (λ v. stream ++ v) (take-append-drop i piece)));
       all = λ m. absurd (c.in_default.not-More m);
       settled = λ h. (inv.settled h, untaken old c.loop-i.self piece i inv.taken (inv.settled h));

@@ -8,7 +8,8 @@ turns-smaller c = turn_lowers c.args.line (run_in c.turns.self) (run_in c.turn.n
 
 pub turns-preserved : goal.turns-preserved
 turns-preserved c = record {
-  same = sym (settled_turn c.args.line (run_in c.turns.self) (run_in c.turn.new.self) (c.in_ok-turn.ensures.made c.if-branch.true)) ∙ c.turns.invariant.same;
+  same = sym (settled_turn c.args.line (run_in c.turns.self) (run_in c.turn.new.self) (c.in_ok-turn.ensures.made c.if-branch.true))
+      ∙ c.turns.invariant.same;
   kept = c.in_ok-turn.ensures.kept;
 }
 
