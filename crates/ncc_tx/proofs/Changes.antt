@@ -1,5 +1,6 @@
 -- Which change leads from one part to another, and what may be kept behind it.
-use Rattle.std.proofs.Common.{◌≡◌, ℕ, zero, suc, ◌+◌, ◌<◌, ◌≤◌, List, [], ◌∷◌, ◌++◌, length, take, drop, Option, Some, None, refl, sym, ap, ◌∙◌, subst, arith, length-append, inl, inr}
+use Rattle.std.proofs.Common.{◌≡◌, ℕ, zero, suc, ◌+◌, ◌<◌, ◌≤◌, List, [], ◌∷◌, ◌++◌, length, take, drop, Option, Some, None, refl}
+use Rattle.std.proofs.Common.{sym, ap, ◌∙◌, subst, arith, length-append, inl, inr}
 use Rattle.std.specs.Prelude.{slice_get}
 use Rattle.std.proofs.lemmas.Bool.{cases_lt}
 use Rattle.std.proofs.lemmas.List.{drop_at, length-take-le, take-append-drop, take_at}
@@ -9,11 +10,13 @@ use Rattle.ncc_tx.specs.declared.entry.ChangeSet.{ChangeSet}
 use Rattle.ncc_tx.specs.declared.entry.Item.{Item}
 use Rattle.ncc_tx.specs.declared.entry.Saved.{Saved}
 use Rattle.ncc_tx.specs.Items.{entry_allowed}
-use Rattle.ncc_tx.specs.Kept.{IsChange, Leads, MayFollow, MayKeep, NeverFalls, Parted, Shared, TermsParted, max_items, part_after, term_at, term_of}
+use Rattle.ncc_tx.specs.Kept.{IsChange, Leads, MayFollow, MayKeep, NeverFalls, Parted, Shared, TermsParted, max_items, part_after}
+use Rattle.ncc_tx.specs.Kept.{term_at, term_of}
 
 -- ---- one number of shared items
 
-apart : (old new : List Item) (m n : ℕ) → m < n → n ≤ length old → n ≤ length new → take n old ≡ take n new → Parted (drop m old) (drop m new) → ⊥
+apart : (old new : List Item) (m n : ℕ) → m < n → n ≤ length old → n ≤ length new → take n old ≡ take n new →
+    Parted (drop m old) (drop m new) → ⊥
 apart [] new m n lt a b e p = absurd (omega arith)
 apart (x ∷ xs) [] m n lt a b e p = absurd (omega arith)
 apart (x ∷ xs) (y ∷ ys) m zero lt a b e p = absurd (omega arith)
@@ -51,10 +54,12 @@ one old new (Some c) (Some d) a b = ap Some (same_change old new c d a b)
 
 pub leads : (old new : Saved) (c : ChangeSet) → IsChange old new c → part_after old c ≡ new
 leads old new c is =
-    let log : take c.keep old.log ++ c.items ≡ new.log = ap (λ (l : List Item). take c.keep old.log ++ l) is.items ∙ ap (λ (l : List Item). l ++ drop c.keep new.log) is.keep.same ∙ take-append-drop c.keep new.log in
+    let log : take c.keep old.log ++ c.items ≡ new.log = ap (λ (l : List Item). take c.keep old.log ++ l) is.items
+        ∙ ap (λ (l : List Item). l ++ drop c.keep new.log) is.keep.same ∙ take-append-drop c.keep new.log in
     λ i. record { term = is.term i; vote = is.vote i; log = log i }
 
-pub leads_after : (old : Saved) (c : ChangeSet) → c.keep ≤ length old.log → Parted (drop c.keep old.log) c.items → (old ≡ part_after old c → ⊥) → IsChange old (part_after old c) c
+pub leads_after : (old : Saved) (c : ChangeSet) → c.keep ≤ length old.log → Parted (drop c.keep old.log) c.items →
+    (old ≡ part_after old c → ⊥) → IsChange old (part_after old c) c
 leads_after old c le parted other =
     let front : length (take c.keep old.log) ≡ c.keep = length-take-le c.keep old.log le in
     let behind : drop c.keep (take c.keep old.log ++ c.items) ≡ c.items = drop_at (take c.keep old.log) c.items c.keep front in
@@ -82,7 +87,8 @@ abbrev last_of : ℕ → List Item → ℕ
 last_of least [] = least
 last_of least (i ∷ is) = last_of i.term is
 
-falls_joined : (least greatest : ℕ) (xs ys : List Item) → NeverFalls least greatest xs → NeverFalls (last_of least xs) greatest ys → NeverFalls least greatest (xs ++ ys)
+falls_joined : (least greatest : ℕ) (xs ys : List Item) → NeverFalls least greatest xs → NeverFalls (last_of least xs) greatest ys →
+    NeverFalls least greatest (xs ++ ys)
 falls_joined least greatest [] ys a b = b
 falls_joined least greatest (x ∷ xs) ys a b = (a.0, a.1, falls_joined x.term greatest xs ys a.2 b)
 
@@ -109,14 +115,17 @@ at_is : (log : List Item) (n : ℕ) → term_or 0 log n ≡ term_at log n
 at_is log zero = refl
 at_is log (suc n) = refl
 
-pub kept : (old : Saved) (c : ChangeSet) → MayKeep old → MayFollow old c → length (part_after old c).log ≤ max_items → MayKeep (part_after old c)
+pub kept : (old : Saved) (c : ChangeSet) → MayKeep old → MayFollow old c → length (part_after old c).log ≤ max_items →
+    MayKeep (part_after old c)
 kept old c k f few =
-    let front : NeverFalls 0 c.term (take c.keep old.log) = falls_front 0 c.term c.keep old.log (falls_under 0 old.term c.term old.log f.term k.terms) in
+    let front : NeverFalls 0 c.term (take c.keep old.log) =
+        falls_front 0 c.term c.keep old.log (falls_under 0 old.term c.term old.log f.term k.terms) in
     let last : last_of 0 (take c.keep old.log) ≡ term_at old.log c.keep = last_is 0 old.log c.keep f.keep ∙ at_is old.log c.keep in
     record {
       term = f.stands.term;
       vote = f.stands.vote;
       terms = falls_joined 0 c.term (take c.keep old.log) c.items front (subst (λ (t : ℕ). NeverFalls t c.term c.items) (sym last) f.terms);
-      entries = All-append (λ (i : Item). IsTrue (entry_allowed i.entry)) (take c.keep old.log) c.items (All-take (λ (i : Item). IsTrue (entry_allowed i.entry)) c.keep old.log k.entries) f.stands.entries;
+      entries = All-append (λ (i : Item). IsTrue (entry_allowed i.entry)) (take c.keep old.log) c.items
+          (All-take (λ (i : Item). IsTrue (entry_allowed i.entry)) c.keep old.log k.entries) f.stands.entries;
       few = few;
     }

@@ -1,5 +1,6 @@
 -- The bytes of items, their lengths, and what may be written.
-use Rattle.std.proofs.Common.{◌≡◌, ℕ, ◌+◌, ◌-◌, ◌^◌, ◌<◌, ◌≤◌, ◌&&◌, Bool, true, false, min, List, [], ◌∷◌, ◌++◌, length, get_or, take, Result, Ok, Err, refl, sym, ap, ◌∙◌, append_assoc, subst, arith, length-append}
+use Rattle.std.proofs.Common.{◌≡◌, ℕ, ◌+◌, ◌-◌, ◌^◌, ◌<◌, ◌≤◌, ◌&&◌, Bool, true, false, min, List, [], ◌∷◌, ◌++◌, length, get_or}
+use Rattle.std.proofs.Common.{take, Result, Ok, Err, refl, sym, ap, ◌∙◌, append_assoc, subst, arith, length-append}
 use Rattle.std.specs.Prelude.{IsOk, IsTrue, OnErr, nat_le}
 use Rattle.std.proofs.Math.Nat.{lt_of_not-le}
 use Rattle.std.specs.Int.{w32, w64, to_be_bytes}
@@ -36,7 +37,8 @@ allowed_by x f le =
     ap (λ (b : Bool). b && nat_le (length (spelled x)) max_entry) f ∙ short
 
 pub all_fit : (items : List Item) → AllAllowed items → All (λ i. IsTrue (entry_fits i.entry)) items
-all_fit items all = All-weaker (λ (i : Item). IsTrue (entry_allowed i.entry)) (λ (i : Item). IsTrue (entry_fits i.entry)) (λ i h. allowed_fits i.entry h) items all
+all_fit items all = All-weaker (λ (i : Item). IsTrue (entry_allowed i.entry)) (λ (i : Item). IsTrue (entry_fits i.entry))
+    (λ i h. allowed_fits i.entry h) items all
 
 -- ---- lengths
 
@@ -59,48 +61,61 @@ length_payload c =
     let head : length front ≡ 17 = refl in
     omega (arith, head, length-append front (counted c.items))
 
-pub items_more : (items : List Item) (i : ℕ) (x : Item) → i < length items → x ≡ get_or items i x → items_bytes (take (i + 1) items) ≡ items_bytes (take i items) ++ item_bytes x
+pub items_more : (items : List Item) (i : ℕ) (x : Item) → i < length items → x ≡ get_or items i x →
+    items_bytes (take (i + 1) items) ≡ items_bytes (take i items) ++ item_bytes x
 items_more items i x lt is =
-    ap (flat_map item_bytes) (take_more items i x lt ∙ ap (λ (y : Item). take i items ++ y ∷ []) (sym is)) ∙ flat_map-append item_bytes (take i items) (x ∷ [])
+    ap (flat_map item_bytes) (take_more items i x lt ∙ ap (λ (y : Item). take i items ++ y ∷ []) (sym is))
+        ∙ flat_map-append item_bytes (take i items) (x ∷ [])
     ∙ ap (λ (l : List ℕ). items_bytes (take i items) ++ l) (append-nil (item_bytes x))
 
 abbrev pub greatest : ℕ
 greatest = 2 ^ 64 - 1
 
-pub adds_item : (items : List Item) (i sum t : ℕ) (x : Item) → i < length items → x ≡ get_or items i x → sum ≡ min (4 + length (items_bytes (take i items))) greatest → t ≡ min (length (item_bytes x)) greatest
+pub adds_item : (items : List Item) (i sum t : ℕ) (x : Item) → i < length items → x ≡ get_or items i x →
+    sum ≡ min (4 + length (items_bytes (take i items))) greatest → t ≡ min (length (item_bytes x)) greatest
     → min (sum + t) greatest ≡ min (4 + length (items_bytes (take (i + 1) items))) greatest
 adds_item items i sum t x lt is e f =
-    let more : length (items_bytes (take (i + 1) items)) ≡ length (items_bytes (take i items)) + length (item_bytes x) = ap length (items_more items i x lt is) ∙ length-append (items_bytes (take i items)) (item_bytes x) in
+    let more : length (items_bytes (take (i + 1) items)) ≡ length (items_bytes (take i items)) + length (item_bytes x) =
+        ap length (items_more items i x lt is) ∙ length-append (items_bytes (take i items)) (item_bytes x) in
     grind arith
 
-pub all_added : (items : List Item) (i sum : ℕ) → length items ≤ i → sum ≡ min (4 + length (items_bytes (take i items))) greatest → sum ≡ min (length (counted items)) greatest
+pub all_added : (items : List Item) (i sum : ℕ) → length items ≤ i → sum ≡ min (4 + length (items_bytes (take i items))) greatest →
+    sum ≡ min (length (counted items)) greatest
 all_added items i sum le e =
     let all : items_bytes (take i items) ≡ items_bytes items = ap (flat_map item_bytes) (take_all i items le) in
     e ∙ ap (λ (l : List ℕ). min (4 + length l) greatest) all ∙ ap (λ (n : ℕ). min n greatest) (sym (length_counted items))
 
 -- ---- what is written
 
-pub item_put : (old a b new : List ℕ) (size : ℕ) (i : Item) → a ≡ old ++ to_be_bytes w64 i.term → b ≡ a ++ to_be_bytes w32 size → new ≡ b ++ spelled i.entry → size ≡ length (spelled i.entry) → new ≡ old ++ item_bytes i
+pub item_put : (old a b new : List ℕ) (size : ℕ) (i : Item) → a ≡ old ++ to_be_bytes w64 i.term → b ≡ a ++ to_be_bytes w32 size →
+    new ≡ b ++ spelled i.entry → size ≡ length (spelled i.entry) → new ≡ old ++ item_bytes i
 unfolding item_bytes
 item_put old a b new size i e f g s =
     let t : List ℕ = to_be_bytes w64 i.term in
     let n : List ℕ = to_be_bytes w32 (length (spelled i.entry)) in
-    let h : b ≡ (old ++ t) ++ n = f ∙ ap (λ (l : List ℕ). l ++ to_be_bytes w32 size) e ∙ ap (λ (k : ℕ). (old ++ t) ++ to_be_bytes w32 k) s in
+    let h : b ≡ (old ++ t) ++ n = f ∙ ap (λ (l : List ℕ). l ++ to_be_bytes w32 size) e
+        ∙ ap (λ (k : ℕ). (old ++ t) ++ to_be_bytes w32 k) s in
     g ∙ ap (λ (l : List ℕ). l ++ spelled i.entry) (h ∙ append_assoc old t n) ∙ append_assoc old (t ++ n) (spelled i.entry)
 
-pub one_put : (items : List Item) (i : ℕ) (x : Item) (init into new : List ℕ) → i < length items → x ≡ get_or items i x → into ≡ init ++ items_bytes (take i items) → new ≡ into ++ item_bytes x → new ≡ init ++ items_bytes (take (i + 1) items)
+pub one_put : (items : List Item) (i : ℕ) (x : Item) (init into new : List ℕ) → i < length items → x ≡ get_or items i x →
+    into ≡ init ++ items_bytes (take i items) → new ≡ into ++ item_bytes x → new ≡ init ++ items_bytes (take (i + 1) items)
 one_put items i x init into new lt is e f =
-    f ∙ ap (λ (l : List ℕ). l ++ item_bytes x) e ∙ append_assoc init (items_bytes (take i items)) (item_bytes x) ∙ ap (λ (l : List ℕ). init ++ l) (sym (items_more items i x lt is))
+    f ∙ ap (λ (l : List ℕ). l ++ item_bytes x) e ∙ append_assoc init (items_bytes (take i items)) (item_bytes x)
+        ∙ ap (λ (l : List ℕ). init ++ l) (sym (items_more items i x lt is))
 
-pub all_put : (items : List Item) (i : ℕ) (init into : List ℕ) → length items ≤ i → into ≡ init ++ items_bytes (take i items) → into ≡ init ++ items_bytes items
+pub all_put : (items : List Item) (i : ℕ) (init into : List ℕ) → length items ≤ i → into ≡ init ++ items_bytes (take i items) →
+    into ≡ init ++ items_bytes items
 all_put items i init into le e = e ∙ ap (λ (l : List Item). init ++ items_bytes l) (take_all i items le)
 
-pub counted_put : (old a new : List ℕ) (number : ℕ) (items : List Item) → a ≡ old ++ to_be_bytes w32 number → new ≡ a ++ items_bytes items → number ≡ length items → new ≡ old ++ counted items
+pub counted_put : (old a new : List ℕ) (number : ℕ) (items : List Item) → a ≡ old ++ to_be_bytes w32 number →
+    new ≡ a ++ items_bytes items → number ≡ length items → new ≡ old ++ counted items
 unfolding counted
 counted_put old a new number items e f s =
-    f ∙ ap (λ (l : List ℕ). l ++ items_bytes items) (e ∙ ap (λ (n : ℕ). old ++ to_be_bytes w32 n) s) ∙ append_assoc old (to_be_bytes w32 (length items)) (items_bytes items)
+    f ∙ ap (λ (l : List ℕ). l ++ items_bytes items) (e ∙ ap (λ (n : ℕ). old ++ to_be_bytes w32 n) s)
+        ∙ append_assoc old (to_be_bytes w32 (length items)) (items_bytes items)
 
-pub length_front : (items : List Item) (i : ℕ) (x : Item) → i < length items → x ≡ get_or items i x → length (items_bytes (take i items)) + length (item_bytes x) ≤ length (items_bytes items)
+pub length_front : (items : List Item) (i : ℕ) (x : Item) → i < length items → x ≡ get_or items i x →
+    length (items_bytes (take i items)) + length (item_bytes x) ≤ length (items_bytes items)
 length_front items i x lt is =
     let e : length (item_bytes (get_or items i x)) ≡ length (item_bytes x) = ap (λ (y : Item). length (item_bytes y)) (sym is) in
     omega (arith, e, length-flat_map-take item_bytes items i x lt)
@@ -110,9 +125,11 @@ length_front items i x lt is =
 pub begins_on : (init a b x : List ℕ) → a ≡ init ++ x → Begins a b → Begins init b
 begins_on init a b x e h = (x ++ h.0, h.1 ∙ ap (λ (l : List ℕ). l ++ h.0) e ∙ append_assoc init x h.0)
 
-pub full_on : (items : List Item) (i : ℕ) (x : Item) (init into : List ℕ) (room now : ℕ) → i < length items → x ≡ get_or items i x → into ≡ init ++ items_bytes (take i items) → room ≤ now
+pub full_on : (items : List Item) (i : ℕ) (x : Item) (init into : List ℕ) (room now : ℕ) → i < length items → x ≡ get_or items i x →
+    into ≡ init ++ items_bytes (take i items) → room ≤ now
     → now < length into + length (item_bytes x) → room < length init + length (items_bytes items)
-full_on items i x init into room now lt is e le small = omega (arith, length_front items i x lt is, ap length e, length-append init (items_bytes (take i items)))
+full_on items i x init into room now lt is e le small = omega (arith, length_front items i x lt is, ap length e,
+    length-append init (items_bytes (take i items)))
 
 pub any_error : {T E : Type 0} (r : Result T E) (P : Type 0) → P → OnErr r P
 any_error (Ok x) P p = tt

@@ -1,5 +1,6 @@
 -- Steps and the calls that they are made of.
-use Rattle.std.proofs.Common.{◌≡◌, ℕ, ◌+◌, suc, true, List, [], ◌∷◌, ◌++◌, length, map, Result, Ok, Err, refl, sym, ap, ◌∙◌, append_assoc, subst, arith}
+use Rattle.std.proofs.Common.{◌≡◌, ℕ, ◌+◌, suc, true, List, [], ◌∷◌, ◌++◌, length, map, Result, Ok, Err, refl, sym, ap, ◌∙◌}
+use Rattle.std.proofs.Common.{append_assoc, subst, arith}
 use Rattle.std.specs.Coded.{Coded-set, coded_result, coded×, coded_ℕ}
 use mathlib.Core.Bool.{Bool-set}
 use mathlib.Core.Path.{subst₂, subst₃}
@@ -44,7 +45,8 @@ pub stops : (steps : List Step) (c : Call) (rest : List Call) → (Parses c → 
 stops [] c rest none = here c rest none
 stops (s ∷ ss) c rest none =
     let e : length ss + 1 ≡ suc (length ss) = omega arith in
-    subst (λ (n : ℕ). Fails n (call_of s ∷ (map call_of ss ++ c ∷ rest))) e (there (length ss) (call_of s) (map call_of ss ++ c ∷ rest) (s.statement, s.reads) (stops ss c rest none))
+    subst (λ (n : ℕ). Fails n (call_of s ∷ (map call_of ss ++ c ∷ rest))) e
+        (there (length ss) (call_of s) (map call_of ss ++ c ∷ rest) (s.statement, s.reads) (stops ss c rest none))
 
 -- the calls of steps all parse
 pub none_stops : (front rest : List Call) (c : Call) (ss : List Step) → front ++ c ∷ rest ≡ map call_of ss → (Parses c → ⊥) → ⊥
@@ -64,20 +66,25 @@ pub record Stands (calls : List Call) (steps : List Step) (left : List Call) (nu
   pub calls_are : map call_of steps ++ left ≡ calls
   pub number_is : number ≡ length steps
 
-pub fails_here : (calls : List Call) (steps : List Step) (left rest : List Call) (number : ℕ) (c : Call) → Stands calls steps left number → left ≡ c ∷ rest → (Parses c → ⊥) → Fails number calls
+pub fails_here : (calls : List Call) (steps : List Step) (left rest : List Call) (number : ℕ) (c : Call) →
+    Stands calls steps left number → left ≡ c ∷ rest → (Parses c → ⊥) → Fails number calls
 fails_here calls steps left rest number c s is none =
     let e = ap (λ (t : List Call). map call_of steps ++ t) (sym is) ∙ s.calls_are in
     subst₂ Fails (sym s.number_is) e (stops steps c rest none)
 
-pub none_here : (calls : List Call) (steps : List Step) (left rest : List Call) (number : ℕ) (c : Call) → Stands calls steps left number → left ≡ c ∷ rest → (Parses c → ⊥) → (ss : List Step) → map call_of ss ≡ calls → ⊥
+pub none_here : (calls : List Call) (steps : List Step) (left rest : List Call) (number : ℕ) (c : Call) →
+    Stands calls steps left number → left ≡ c ∷ rest → (Parses c → ⊥) → (ss : List Step) → map call_of ss ≡ calls → ⊥
 none_here calls steps left rest number c s is none ss e =
     none_stops (map call_of steps) rest c ss (ap (λ (t : List Call). map call_of steps ++ t) (sym is) ∙ s.calls_are ∙ sym e) none
 
-pub stands_more : (calls : List Call) (steps : List Step) (left rest : List Call) (number : ℕ) (c : Call) (source : List ℕ) (s : Step) (new : List Step) → Stands calls steps left number → left ≡ c ∷ rest → source ≡ c.source
+pub stands_more : (calls : List Call) (steps : List Step) (left rest : List Call) (number : ℕ) (c : Call) (source : List ℕ)
+    (s : Step) (new : List Step) → Stands calls steps left number → left ≡ c ∷ rest → source ≡ c.source
     → (s.source ≡ source) × (s.params ≡ c.params) → new ≡ steps ++ s ∷ [] → Stands calls new rest (number + 1)
 stands_more calls steps left rest number c source s new before is e parts more =
     let same : call_of s ≡ c = λ i. record { source = (parts.0 ∙ e) i; params = parts.1 i } in
-    let all : map call_of (steps ++ s ∷ []) ++ rest ≡ calls = ap (λ (t : List Call). t ++ rest) (map_push call_of steps s) ∙ append_assoc (map call_of steps) (call_of s ∷ []) rest ∙ ap (λ (x : Call). map call_of steps ++ x ∷ rest) same ∙ ap (λ (t : List Call). map call_of steps ++ t) (sym is) ∙ before.calls_are in
+    let all : map call_of (steps ++ s ∷ []) ++ rest ≡ calls = ap (λ (t : List Call). t ++ rest) (map_push call_of steps s)
+        ∙ append_assoc (map call_of steps) (call_of s ∷ []) rest ∙ ap (λ (x : Call). map call_of steps ++ x ∷ rest) same
+        ∙ ap (λ (t : List Call). map call_of steps ++ t) (sym is) ∙ before.calls_are in
     subst (λ (ss : List Step). Stands calls ss rest (number + 1)) (sym more) record {
       calls_are = all;
       number_is = omega (arith, before.number_is, length-append steps (s ∷ []));
@@ -85,8 +92,10 @@ stands_more calls steps left rest number c source s new before is e parts more =
 
 -- ---- steps with the same calls are the same
 
-parts_same : (source : List ℕ) (told : Statement) (params : List (List ℕ × Value)) (p q : parsed source ≡ read_as told) (f g : fits (v.Dict params) ≡ true)
-    → ◌≡◌ {A = Step} (record { source = source; statement = told; params = params; reads = p; fits = f }) (record { source = source; statement = told; params = params; reads = q; fits = g })
+parts_same : (source : List ℕ) (told : Statement) (params : List (List ℕ
+    × Value)) (p q : parsed source ≡ read_as told) (f g : fits (v.Dict params) ≡ true)
+    → ◌≡◌ {A = Step} (record { source = source; statement = told; params = params; reads = p; fits = f }) (record { source = source;
+        statement = told; params = params; reads = q; fits = g })
 parts_same source told params p q f g = λ i. record {
   source = source;
   statement = told;
@@ -97,7 +106,9 @@ parts_same source told params p q f g = λ i. record {
 
 step_same : (a b : Step) → a.source ≡ b.source → a.statement ≡ b.statement → a.params ≡ b.params → a ≡ b
 step_same a b e f g =
-    subst₃ (λ (source : List ℕ) (statement : Statement) (params : List (List ℕ × Value)). (p : parsed source ≡ read_as statement) (q : fits (v.Dict params) ≡ true) → a ≡ record { source = source; statement = statement; params = params; reads = p; fits = q })
+    subst₃ (λ (source : List ℕ) (statement : Statement) (params : List (List ℕ
+        × Value)). (p : parsed source ≡ read_as statement) (q : fits (v.Dict params) ≡ true) →
+        a ≡ record { source = source; statement = statement; params = params; reads = p; fits = q })
     e f g (λ p q. parts_same a.source a.statement a.params a.reads p a.fits q) b.reads b.fits
 
 pub same_steps : (xs ys : List Step) → map call_of xs ≡ map call_of ys → xs ≡ ys

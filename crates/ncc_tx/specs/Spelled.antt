@@ -1,6 +1,7 @@
 -- The one spelling of an entry: the shortest of its value. A Noop is null. A transaction is the list of its steps, each a
 -- source and parameters, and of the rows that were told, one list of rows for each step, where a row is a list.
-use Rattle.std.specs.Prelude.{◌≡◌, ℕ, ◌+◌, nat_eq, Bool, true, false, ◌&&◌, IsTrue, List, [], ◌∷◌, ◌++◌, length, map, Option, Some, None, Result, Ok, Err}
+use Rattle.std.specs.Prelude.{◌≡◌, ℕ, ◌+◌, nat_eq, Bool, true, false, ◌&&◌, IsTrue, List, [], ◌∷◌, ◌++◌, length, map, Option, Some}
+use Rattle.std.specs.Prelude.{None, Result, Ok, Err}
 use Rattle.ncc_pack.specs.declared.value.Value.{Value}
 use Rattle.ncc_pack.specs.declared.value.Value.TheVariants as v
 use Rattle.ncc_pack.specs.declared.error.PackError.TheVariants as p

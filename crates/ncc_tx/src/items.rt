@@ -1,6 +1,7 @@
 //! The spelling of items, as a journal's records and the frames of peers have them.
 
-ghost use Rattle.std.specs.Prelude.{◌≡◌, ◌≤◌, ◌<◌, ◌+◌, ◌-◌, ◌^◌, ◌++◌, List, ℕ, min, length, drop, take, IsTrue, IfOk, IfSome, IfNone, IsOk, OnOk, OnErr, Ok, Err, vec_len, vec_capacity};
+ghost use Rattle.std.specs.Prelude.{◌≡◌, ◌≤◌, ◌<◌, ◌+◌, ◌-◌, ◌^◌, ◌++◌, List, ℕ, min, length, drop, take, IsTrue, IfOk, IfSome};
+ghost use Rattle.std.specs.Prelude.{IfNone, IsOk, OnOk, OnErr, Ok, Err, vec_len, vec_capacity};
 ghost use Rattle.std.specs.List.{All};
 ghost use Rattle.ncc_tx.specs.declared.entry.Item.{Item};
 ghost use Rattle.ncc_tx.specs.declared.field.ItemError.TheVariants.{Wrong};
@@ -52,7 +53,8 @@ pub fn payload_len(change: &ChangeSet) -> u64
     items_len(change.items.as_slice()).saturating_add(17)
 }
 
-#[tactic(auto, using(crate::proofs::ItemBytes::length_item, crate::proofs::ItemBytes::allowed_fits, crate::proofs::ItemBytes::allowed_short, crate::proofs::ItemBytes::item_put))]
+#[tactic(auto, using(crate::proofs::ItemBytes::length_item, crate::proofs::ItemBytes::allowed_fits,
+    crate::proofs::ItemBytes::allowed_short, crate::proofs::ItemBytes::item_put))]
 fn put_item(item: &Item, into: &mut Vec<u8>) -> Result<(), Memory>
     requires { IsTrue (entry_allowed item.now.entry) }
     ensures ok { OnOk result (into.new.items ≡ into.old.items ++ item_bytes item.now) }
@@ -66,7 +68,8 @@ fn put_item(item: &Item, into: &mut Vec<u8>) -> Result<(), Memory>
     put_entry(&item.entry, into)
 }
 
-#[tactic(auto, using(crate::proofs::ItemBytes::one_put, crate::proofs::ItemBytes::all_put, crate::proofs::ItemBytes::begins_on, crate::proofs::ItemBytes::full_on))]
+#[tactic(auto, using(crate::proofs::ItemBytes::one_put, crate::proofs::ItemBytes::all_put, crate::proofs::ItemBytes::begins_on,
+    crate::proofs::ItemBytes::full_on))]
 fn put_items(items: &[Item], into: &mut Vec<u8>) -> Result<(), Memory>
     requires { AllAllowed items.now }
     ensures ok { OnOk result (into.new.items ≡ into.old.items ++ items_bytes items.now) }
@@ -216,7 +219,8 @@ pub fn read_item(
 
 /// Bytes begin with one item at most.
 pub fn one_item()
-    ensures one { (greatest : ℕ) (bytes : List ℕ) (i j : Item) → greatest < 2 ^ 64 → BeginsWith 0 greatest bytes i → BeginsWith 0 greatest bytes j → i ≡ j }
+    ensures one { (greatest : ℕ) (bytes : List ℕ) (i j : Item) → greatest < 2 ^ 64 → BeginsWith 0 greatest bytes i →
+        BeginsWith 0 greatest bytes j → i ≡ j }
 {
     one_spelling();
 }

@@ -4,7 +4,8 @@ ghost use Rattle.std.specs.Prelude.{◌≡◌, ◌↔◌, ◌≤◌, ◌<◌, �
 ghost use Rattle.ncc_tx.specs.declared.entry.ChangeSet.{ChangeSet};
 ghost use Rattle.ncc_tx.specs.declared.entry.Item.{Item};
 ghost use Rattle.ncc_tx.specs.declared.entry.Saved.{Saved};
-ghost use Rattle.ncc_tx.specs.Kept.{AllAllowed, IsChange, Leads, MayFollow, MayKeep, MayStand, NeverFalls, Parted, SameTerms, TermsParted, max_items, part_after, payload, term_at};
+ghost use Rattle.ncc_tx.specs.Kept.{AllAllowed, IsChange, Leads, MayFollow, MayKeep, MayStand, NeverFalls, Parted, SameTerms};
+ghost use Rattle.ncc_tx.specs.Kept.{TermsParted, max_items, part_after, payload, term_at};
 
 use crate::entry::{ChangeSet, Item, Saved};
 use crate::items::payload_len;
@@ -104,7 +105,8 @@ impl ChangeSet {
 
 /// How many items at the front of two logs have the same terms: the greatest such number. Where the logs are of one
 /// cluster these items are the same.
-#[tactic(auto, using(crate::proofs::Terms::parted_at, crate::proofs::Terms::parted_end, crate::proofs::Terms::same_more, crate::proofs::Terms::same_front, crate::proofs::Terms::all_same))]
+#[tactic(auto, using(crate::proofs::Terms::parted_at, crate::proofs::Terms::parted_end, crate::proofs::Terms::same_more,
+    crate::proofs::Terms::same_front, crate::proofs::Terms::all_same))]
 pub fn same_terms(items: &[Item], others: &[Item]) -> usize
     ensures most { SameTerms items.now others.now result }
 {
@@ -134,10 +136,12 @@ pub fn change_leads()
 /// A change leads to the part after it where that is another part, no more is kept than is there, and the first item behind
 /// is a new one.
 pub fn leads_on()
-    ensures leads { (old : Saved) (c : ChangeSet) → c.keep ≤ length old.log → Parted (drop c.keep old.log) c.items → (old ≡ part_after old c → ⊥) → IsChange old (part_after old c) c }
+    ensures leads { (old : Saved) (c : ChangeSet) → c.keep ≤ length old.log → Parted (drop c.keep old.log) c.items →
+        (old ≡ part_after old c → ⊥) → IsChange old (part_after old c) c }
 {}
 
 /// What may be kept may be kept after a change that may follow it, where the log is not too long.
 pub fn kept_on()
-    ensures kept { (old : Saved) (c : ChangeSet) → MayKeep old → MayFollow old c → length (part_after old c).log ≤ max_items → MayKeep (part_after old c) }
+    ensures kept { (old : Saved) (c : ChangeSet) → MayKeep old → MayFollow old c → length (part_after old c).log ≤ max_items →
+        MayKeep (part_after old c) }
 {}

@@ -31,7 +31,8 @@ fn change_of(
     told: &RowLists,
 ) -> Result<Option<Delta>, Memory>
     ensures none { IfOk result (λ d. is_some d ≡ gives told.now (exec store.now (map call_of steps.now))) }
-    ensures some { IfOk result (λ o. IfSome o (λ d. (ended store.now (exec store.now (map call_of steps.now)) ≡ applied d store.now) × IsOver store.now d)) }
+    ensures some { IfOk result (λ o. IfSome o (λ d. (ended store.now (exec store.now (map call_of steps.now)) ≡ applied d store.now)
+        × IsOver store.now d)) }
 {
     match Overlay::run(alloc, store, steps) {
         Ok(ran) => {
@@ -81,7 +82,8 @@ pub fn absorb(alloc: Global, store: &mut Store, entry: &Entry) -> Result<bool, M
 
 /// A transaction is valid exactly where running its steps gives the rows that were told, and no fault.
 pub fn valid_means()
-    ensures means { (g : Graph) (steps : List Step) (told : List (List (List Value))) → IsTrue (valid g (entry.Tx steps told)) ↔ RunsTo g steps told }
+    ensures means { (g : Graph) (steps : List Step) (told : List (List (List Value))) → IsTrue (valid g (entry.Tx steps told))
+        ↔ RunsTo g steps told }
 {}
 
 /// A history that grows by an item leaves the store after that item's run, where it is valid at the store before.

@@ -18,7 +18,6 @@ use ncc_pack::{
     text_fits, text_len, values_fit_within, values_len,
 };
 use ncc_store::{RowLists, Step, Steps};
-use std::mem::replace;
 
 const MAX_SIZE: usize = 16_777_216;
 
@@ -259,10 +258,12 @@ fn put_told(told: &RowLists, into: &mut Vec<u8>) -> Result<(), Memory>
 
 fn put_tx(steps: &Steps, told: &RowLists, into: &mut Vec<u8>) -> Result<(), Memory>
     requires { IsTrue (fits (pair_value (calls_value (map call_of steps.now), told_value told.now))) }
-    ensures ok { OnOk result (into.new.items ≡ into.old.items ++ short (pair_value (calls_value (map call_of steps.now), told_value told.now))) }
+    ensures ok { OnOk result (into.new.items ≡ into.old.items ++ short (pair_value (calls_value (map call_of steps.now),
+        told_value told.now))) }
     ensures err { OnErr result (Begins into.old.items into.new.items) }
     ensures grows { vec_capacity into.old ≤ vec_capacity into.new }
-    ensures full { OnErr result (vec_capacity into.old < length into.old.items + length (short (pair_value (calls_value (map call_of steps.now), told_value told.now)))) }
+    ensures full { OnErr result (vec_capacity into.old < length into.old.items + length
+        (short (pair_value (calls_value (map call_of steps.now), told_value told.now)))) }
 {
     put_head(2, into)?;
     put_steps(steps, into)?;
@@ -307,7 +308,7 @@ pub fn entry_bytes(entry: &Entry, into: &mut Bytes) -> Result<(), Memory>
     ensures ok { OnOk result (into.new ≡ into.old ++ spelled entry.now) }
     ensures err { OnErr result (into.new ≡ into.old) }
 {
-    let mut bytes = replace(into, Bytes::new(into.allocator())).into_vec();
+    let mut bytes = into.take();
     let result = entry_within(entry, &mut bytes);
     *into = Bytes::from_vec(bytes);
     result
