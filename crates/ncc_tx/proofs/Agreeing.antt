@@ -5,7 +5,8 @@ use Rattle.ncc_pack.specs.declared.value.Value.{Value, fold-roll-Value, map-Valu
 use Rattle.ncc_pack.specs.declared.value.Value.TheOpen.{Value-F}
 use Rattle.ncc_pack.specs.declared.value.Value.TheVariants as v
 use Rattle.ncc_pack.specs.declared.value.NodeValue.{NodeValue, fold_out-NodeValue}
-use Rattle.ncc_tx.specs.Equal.{all_agree, Test, passes, pair_passes, layers_agree, value_step, node_step, equal, equal_nodes, equal_values, pair_equals}
+use Rattle.ncc_tx.specs.Equal.{all_agree, Test, passes, pair_passes, layers_agree, value_step, node_step, equal, equal_nodes}
+use Rattle.ncc_tx.specs.Equal.{equal_values, pair_equals}
 
 abbrev pub Layer : Type 0
 Layer = Value-F Value NodeValue
@@ -18,10 +19,12 @@ abbrev pub test_pair : List ℕ × Value → List ℕ × Test
 test_pair p = (p.0, equal p.1)
 
 pub equal_by : (x : Value) (l : Layer) → roll-Value l ≡ x → (y : Value) → equal x y ≡ layers_agree (tests_of l) (out-Value y)
-equal_by x l e y = ap (λ (z : Value). equal z y) (sym e) ∙ ap (λ (t : Test). t y) (fold-roll-Value Test (NodeValue → Bool) value_step node_step l)
+equal_by x l e y = ap (λ (z : Value). equal z y) (sym e)
+    ∙ ap (λ (t : Test). t y) (fold-roll-Value Test (NodeValue → Bool) value_step node_step l)
 
 pub equal_both : (x y : Value) (l m : Layer) → roll-Value l ≡ x → roll-Value m ≡ y → equal x y ≡ layers_agree (tests_of l) m
-equal_both x y l m e f = equal_by x l e y ∙ ap (λ (z : Value). layers_agree (tests_of l) (out-Value z)) (sym f) ∙ ap (layers_agree (tests_of l)) (out-roll-Value m)
+equal_both x y l m e f = equal_by x l e y ∙ ap (λ (z : Value). layers_agree (tests_of l) (out-Value z)) (sym f)
+    ∙ ap (layers_agree (tests_of l)) (out-roll-Value m)
 
 pub items_agree : (xs ys : List Value) → all_agree passes (map equal xs) ys ≡ equal_values xs ys
 items_agree [] [] = refl
@@ -36,12 +39,15 @@ pairs_agree (p ∷ ps) [] = refl
 pairs_agree (p ∷ ps) (q ∷ qs) = ap (λ (b : Bool). pair_equals p q && b) (pairs_agree ps qs)
 
 pub lists_by : (xs ys : List Value) → equal_values xs ys ≡ equal (v.List xs) (v.List ys)
-lists_by xs ys = sym (equal_both (v.List xs) (v.List ys) (Value-F.List xs) (Value-F.List ys) (v.rolls-List xs) (v.rolls-List ys) ∙ items_agree xs ys)
+lists_by xs ys = sym (equal_both (v.List xs) (v.List ys) (Value-F.List xs) (Value-F.List ys) (v.rolls-List xs) (v.rolls-List ys)
+    ∙ items_agree xs ys)
 
 pub dicts_by : (ps qs : List (List ℕ × Value)) → all_agree pair_equals ps qs ≡ equal (v.Dict ps) (v.Dict qs)
-dicts_by ps qs = sym (equal_both (v.Dict ps) (v.Dict qs) (Value-F.Dict ps) (Value-F.Dict qs) (v.rolls-Dict ps) (v.rolls-Dict qs) ∙ pairs_agree ps qs)
+dicts_by ps qs = sym (equal_both (v.Dict ps) (v.Dict qs) (Value-F.Dict ps) (Value-F.Dict qs) (v.rolls-Dict ps) (v.rolls-Dict qs)
+    ∙ pairs_agree ps qs)
 
-pub nodes_by : (n m : NodeValue) → equal_nodes n m ≡ (int_eq n.id m.id && equal_values n.labels m.labels && all_agree pair_equals n.props m.props)
+pub nodes_by : (n m : NodeValue) →
+    equal_nodes n m ≡ (int_eq n.id m.id && equal_values n.labels m.labels && all_agree pair_equals n.props m.props)
 nodes_by n m =
     ap (λ (t : NodeValue → Bool). t m) (fold_out-NodeValue Test (NodeValue → Bool) value_step node_step n)
     ∙ ap (λ (b : Bool). int_eq n.id m.id && b && all_agree pair_passes (map test_pair n.props) m.props) (items_agree n.labels m.labels)

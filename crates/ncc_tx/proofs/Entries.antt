@@ -1,29 +1,37 @@
 -- Which entry bytes spell.
-use Rattle.std.proofs.Common.{◌≡◌, ℕ, suc, ◌-◌, ◌<◌, true, ◌&&◌, List, [], ◌∷◌, ◌++◌, length, map, drop, get_or, Result, Ok, Err, refl, sym, ap, ◌∙◌, subst, arith}
+use Rattle.std.proofs.Common.{◌≡◌, ℕ, suc, ◌-◌, ◌<◌, true, ◌&&◌, List, [], ◌∷◌, ◌++◌, length, map, drop, get_or, Result, Ok, Err}
+use Rattle.std.proofs.Common.{refl, sym, ap, ◌∙◌, subst, arith}
 use Rattle.std.specs.Prelude.{IsTrue, nat_eq, nat_le}
 use Rattle.std.specs.List.{All, list_all}
 use Rattle.std.proofs.lemmas.List.{append-nil}
-use Rattle.ncc_pack.specs.declared.value.Value.{Value}
+use Rattle.ncc_pack.specs.declared.value.Value.{Value, fold-roll-Value}
 use Rattle.ncc_pack.specs.declared.value.Value.TheOpen.{Value-F}
 use Rattle.ncc_pack.specs.declared.value.Value.TheVariants as v
 use Rattle.ncc_pack.specs.declared.error.PackError.{PackError}
 use Rattle.ncc_pack.specs.declared.error.PackError.TheVariants as p
-use Rattle.ncc_pack.specs.Limits.{max_size}
+use Rattle.ncc_pack.specs.Limits.{max_depth, max_size}
 use Rattle.ncc_pack.specs.Fits.{Fit, fits, fits_within}
-use Rattle.ncc_pack.specs.Short.{short}
+use Rattle.ncc_pack.specs.Short.{node_step, short, short_step}
 use Rattle.ncc_pack.specs.Reading.{Fails, Gives, read_value}
 use Rattle.ncc_pack.proofs.Fields.{ok_is}
 use Rattle.ncc_pack.proofs.Loops.{all_at, both, fit_of}
 use Rattle.ncc_store.specs.declared.step.Step.{Step}
-use Rattle.ncc_tx.specs.declared.shape.Call.{Call}
+use Rattle.ncc_store.specs.declared.call.Call.{Call}
 use Rattle.ncc_tx.specs.declared.shape.Shape.{Shape}
 use Rattle.ncc_tx.specs.declared.shape.Shape.TheVariants as h
 use Rattle.ncc_tx.specs.declared.entry.Entry.{Entry}
 use Rattle.ncc_tx.specs.declared.entry.Entry.TheVariants as e
 use Rattle.ncc_tx.specs.declared.entry.EntryError.{EntryError}
 use Rattle.ncc_tx.specs.declared.entry.EntryError.TheVariants.{Pack, BadShape, Memory}
-use Rattle.ncc_tx.specs.Spelled.{IsShape, IsOrMemory, Refuses, StepsOrMemory, call_of, call_value, calls_value, entry_fits, paired, rows_value, shape_of, shape_value, spelled, told_value, whole}
-use Rattle.ncc_tx.proofs.Items.{list_by, parts}
+use Rattle.ncc_store.specs.Exec.{call_of}
+use Rattle.ncc_tx.specs.Spelled.{IsShape, IsOrMemory, Refuses, StepsOrMemory, call_value, calls_value, entry_fits, paired}
+use Rattle.ncc_tx.specs.Spelled.{rows_value, shape_of, shape_value, spelled, told_value, whole}
+use Rattle.ncc_pack.proofs.Laws.{one_form}
+use Rattle.ncc_pack.proofs.Trip.{short_is}
+use Rattle.ncc_tx.specs.Items.{entry_allowed}
+use Rattle.ncc_tx.proofs.ItemBytes.{allowed_by}
+use Rattle.ncc_tx.proofs.Steps.{same_steps}
+use Rattle.ncc_tx.proofs.Listed.{list_by, parts}
 use Rattle.ncc_tx.proofs.Layers.{list_same, text_same, dict_same, null_is_no_list}
 use Rattle.ncc_tx.proofs.Pairs.{whole_by}
 
@@ -52,12 +60,14 @@ call_same c d e =
 rows_same : (a b : List (List Value)) → rows_value a ≡ rows_value b → a ≡ b
 rows_same a b e = all_same v.List list_same a b (list_same (map v.List a) (map v.List b) e)
 
-pub tx_same : (cs ds : List Call) (ts us : List (List (List Value))) → shape_value (h.Tx cs ts) ≡ shape_value (h.Tx ds us) → (cs ≡ ds) × (ts ≡ us)
+pub tx_same : (cs ds : List Call) (ts us : List (List (List Value))) → shape_value (h.Tx cs ts) ≡ shape_value (h.Tx ds us) →
+    (cs ≡ ds) × (ts ≡ us)
 tx_same cs ds ts us e =
     let items = list_same (calls_value cs ∷ told_value ts ∷ []) (calls_value ds ∷ told_value us ∷ []) e in
     let first : calls_value cs ≡ calls_value ds = cc in
     let second : told_value ts ≡ told_value us = cc in
-    (all_same call_value call_same cs ds (list_same (map call_value cs) (map call_value ds) first), all_same rows_value rows_same ts us (list_same (map rows_value ts) (map rows_value us) second))
+    (all_same call_value call_same cs ds (list_same (map call_value cs) (map call_value ds) first),
+        all_same rows_value rows_same ts us (list_same (map rows_value ts) (map rows_value us) second))
 
 -- ---- what a shape's value fits
 
@@ -72,7 +82,8 @@ shape_pairs : (s : Shape) → IsTrue (whole s) → IsTrue (paired s)
 shape_pairs h.Noop w = w
 shape_pairs (h.Tx calls told) w = (both (nat_eq (length calls) (length told)) (fits (shape_value (h.Tx calls told))) w).0
 
-pair_fits : (x y : Value) (d : ℕ) → 0 < d → IsTrue (fits_within (v.List (x ∷ y ∷ [])) d) → IsTrue (fits_within x (d - 1)) × IsTrue (fits_within y (d - 1))
+pair_fits : (x y : Value) (d : ℕ) → 0 < d → IsTrue (fits_within (v.List (x ∷ y ∷ [])) d) → IsTrue (fits_within x (d - 1))
+    × IsTrue (fits_within y (d - 1))
 pair_fits x y d pos f =
     let b = both (nat_le 2 max_size) (list_all (λ z. fits_within z (d - 1)) (x ∷ y ∷ [])) (sym (list_by (x ∷ y ∷ []) d pos) ∙ f) in
     let one = both (fits_within x (d - 1)) (fits_within y (d - 1) && true) b.1 in
@@ -80,12 +91,14 @@ pair_fits x y d pos f =
     (one.0, two.0)
 
 -- the parameters of each call fit by themselves
-pub params_fit : ((x : Value) (d : ℕ) → IsTrue (fits_within x d) → IsTrue (fits_within x (suc d))) → (calls : List Call) (told : List (List (List Value))) → IsTrue (fits (shape_value (h.Tx calls told)))
+pub params_fit : ((x : Value) (d : ℕ) → IsTrue (fits_within x d) → IsTrue (fits_within x (suc d))) →
+    (calls : List Call) (told : List (List (List Value))) → IsTrue (fits (shape_value (h.Tx calls told)))
     → All (λ c. IsTrue (fits (v.Dict c.params))) calls
 params_fit deeper calls told f = λ k d lt.
     let all = (parts call_value calls 31 (omega arith) (pair_fits (calls_value calls) (told_value told) 32 (omega arith) f).0).1 in
     let one : IsTrue (fits_within (call_value (get_or calls k d)) 30) = all_at (λ c. fits_within (call_value c) 30) calls k d lt all in
-    whole_by deeper (v.Dict (get_or calls k d).params) (pair_fits (v.Text (get_or calls k d).source) (v.Dict (get_or calls k d).params) 30 (omega arith) one).1
+    whole_by deeper (v.Dict (get_or calls k d).params) (pair_fits (v.Text (get_or calls k d).source)
+        (v.Dict (get_or calls k d).params) 30 (omega arith) one).1
 
 -- ---- a refusal by what reads a value
 
@@ -104,12 +117,14 @@ read_as x n = Ok (x, n)
 
 -- what reads a value reads what was written again
 abbrev pub Again : List ℕ → Result (Value × ℕ) PackError → Type 0
-Again bytes result = (x : Value) (rest : List ℕ) → IsTrue (fits x) → bytes ≡ short x ++ rest → Gives {Y = Value × ℕ} (λ r. r) result (read_as x (length (short x)))
+Again bytes result = (x : Value) (rest : List ℕ) → IsTrue (fits x) → bytes ≡ short x ++ rest →
+    Gives {Y = Value × ℕ} (λ r. r) result (read_as x (length (short x)))
 
 abbrev pub Unshaped : List ℕ → Type 0
 Unshaped bytes = (s : Shape) → IsShape s bytes → ⊥
 
-written : (bytes : List ℕ) (result : Result (Value × ℕ) PackError) → Again bytes result → (s : Shape) → IsShape s bytes → Gives {Y = Value × ℕ} (λ r. r) result (read_as (shape_value s) (length (short (shape_value s))))
+written : (bytes : List ℕ) (result : Result (Value × ℕ) PackError) → Again bytes result → (s : Shape) → IsShape s bytes →
+    Gives {Y = Value × ℕ} (λ r. r) result (read_as (shape_value s) (length (short (shape_value s))))
 written bytes result again s is = again (shape_value s) [] (shape_fits s is.whole) (is.same ∙ sym (append-nil (short (shape_value s))))
 
 pub unread : (bytes : List ℕ) (x : PackError) → (x ≡ p.Memory → ⊥) → Again bytes (Err x) → Unshaped bytes
@@ -118,7 +133,8 @@ unread bytes x other again s is = no_reading x _ other (written bytes (Err x) ag
 module _ (bytes : List ℕ) (value : Value) (used : ℕ) (again : Again bytes (read_as value used)) where
   read_of : (s : Shape) → IsShape s bytes → (shape_value s ≡ value) × (length bytes ≡ used)
   read_of s is =
-      let same : read_as (shape_value s) (length (short (shape_value s))) ≡ read_as value used = written bytes (read_as value used) again s is in
+      let same : read_as (shape_value s) (length (short (shape_value s))) ≡ read_as value used =
+          written bytes (read_as value used) again s is in
       let pair = ok_is (shape_value s, length (short (shape_value s))) (value, used) same in
       (ap (λ (r : Value × ℕ). r.0) pair, ap length is.same ∙ ap (λ (r : Value × ℕ). r.1) pair)
 
@@ -135,7 +151,8 @@ module _ (bytes : List ℕ) (value : Value) (used : ℕ) (again : Again bytes (r
   null_is null e.Noop is = refl
   null_is null (e.Tx steps told) is = absurd (null_is_no_list _ (sym null ∙ sym (read_of (shape_of (e.Tx steps told)) is).0))
 
-  pub tx_is : (calls : List Call) (told : List (List (List Value))) → value ≡ shape_value (h.Tx calls told) → (x : Entry) → IsShape (shape_of x) bytes → (ss : List Step) × (map call_of ss ≡ calls) × (x ≡ e.Tx ss told)
+  pub tx_is : (calls : List Call) (told : List (List (List Value))) → value ≡ shape_value (h.Tx calls told) → (x : Entry) →
+      IsShape (shape_of x) bytes → (ss : List Step) × (map call_of ss ≡ calls) × (x ≡ e.Tx ss told)
   tx_is calls told same e.Noop is = absurd (null_is_no_list _ ((read_of (shape_of e.Noop) is).0 ∙ same))
   tx_is calls told same (e.Tx ss ts) is =
       let t = tx_same (map call_of ss) calls ts told ((read_of (shape_of (e.Tx ss ts)) is).0 ∙ same) in
@@ -155,12 +172,14 @@ is_of bytes x f same = record { whole = f; same = same }
 pub none_spelled : (bytes : List ℕ) → Unshaped bytes → (x : Entry) → IsTrue (entry_fits x) → bytes ≡ spelled x → ⊥
 none_spelled bytes none x f same = none (shape_of x) (is_of bytes x f same)
 
-pub bad_shape : (bytes : List ℕ) (value : Value) (used : ℕ) → read_value bytes ≡ Ok (value, drop used bytes) → Unshaped bytes → (x : EntryError) → refusal BadShape ≡ refusal x → Refuses bytes x
+pub bad_shape : (bytes : List ℕ) (value : Value) (used : ℕ) → read_value bytes ≡ Ok (value, drop used bytes) → Unshaped bytes →
+    (x : EntryError) → refusal BadShape ≡ refusal x → Refuses bytes x
 bad_shape bytes value used read none x is =
     let same : BadShape ≡ x = cc in
     subst (Refuses bytes) same (value, drop used bytes, read, none)
 
-pub pack_refused : (bytes : List ℕ) (x : PackError) (y : EntryError) → (x ≡ p.Memory → ⊥) → Fails x (read_value bytes) → refusal (Pack x) ≡ refusal y → Refuses bytes y
+pub pack_refused : (bytes : List ℕ) (x : PackError) (y : EntryError) → (x ≡ p.Memory → ⊥) → Fails x (read_value bytes) →
+    refusal (Pack x) ≡ refusal y → Refuses bytes y
 pack_refused bytes x y other f is =
     let same : Pack x ≡ y = cc in
     subst (Refuses bytes) same (pack_refuses bytes x other f)
@@ -173,5 +192,29 @@ steps_refused x ss f y = absurd cc
 abbrev made : List Step → Result (List Step) EntryError
 made ss = Ok ss
 
-pub steps_answered : (x : Entry) (steps ss : List Step) (told : List (List (List Value))) → made steps ≡ made ss → x ≡ e.Tx ss told → okay x ≡ okay (e.Tx steps told)
+pub steps_answered : (x : Entry) (steps ss : List Step) (told : List (List (List Value))) → made steps ≡ made ss →
+    x ≡ e.Tx ss told → okay x ≡ okay (e.Tx steps told)
 steps_answered x steps ss told same is = let one : steps ≡ ss = cc in ap okay (is ∙ ap (λ (s : List Step). e.Tx s told) (sym one))
+
+-- ---- an entry has one spelling
+
+same_entry : (x y : Entry) → shape_value (shape_of x) ≡ shape_value (shape_of y) → x ≡ y
+same_entry e.Noop e.Noop h = refl
+same_entry e.Noop (e.Tx ss ts) h = absurd (null_is_no_list _ h)
+same_entry (e.Tx ss ts) e.Noop h = absurd (null_is_no_list _ (sym h))
+same_entry (e.Tx ss ts) (e.Tx us ws) h =
+    let t = tx_same (map call_of ss) (map call_of us) ts ws h in
+    ap (λ (z : List Step). e.Tx z ts) (same_steps ss us t.0) ∙ ap (λ (z : List (List (List Value))). e.Tx us z) t.1
+
+pub one_entry : (x y : Entry) → IsTrue (entry_fits x) → IsTrue (entry_fits y) → spelled x ≡ spelled y → x ≡ y
+one_entry x y f g same =
+    let a = short_is max_depth (shape_value (shape_of x)) (shape_fits (shape_of x) f) in
+    let b = short_is max_depth (shape_value (shape_of y)) (shape_fits (shape_of y) g) in
+    same_entry x y (one_form max_depth (shape_value (shape_of x)) (shape_value (shape_of y)) (spelled x) (spelled y) [] [] a b
+        (ap (λ (l : List ℕ). l ++ []) same)).0
+
+pub noop_is : IsTrue (entry_allowed e.Noop)
+noop_is =
+    let null : spelled e.Noop ≡ 0xC0 ∷ [] = ap short (sym v.rolls-Null)
+        ∙ fold-roll-Value (List ℕ) (List ℕ) short_step node_step Value-F.Null in
+    allowed_by e.Noop refl (omega (arith, ap length null))

@@ -1,9 +1,13 @@
 pub mod Agreeing
 pub mod Decided
 pub mod Meant
-pub mod Items
+pub mod Listed
 pub mod Pairs
 pub mod Layers
 pub mod Shapes
 pub mod Steps
 pub mod Entries
+pub mod Terms
+pub mod Changes
+pub mod ItemBytes
+pub mod ItemRead

@@ -1,6 +1,7 @@
 -- The one spelling of an entry: the shortest of its value. A Noop is null. A transaction is the list of its steps, each a
 -- source and parameters, and of the rows that were told, one list of rows for each step, where a row is a list.
-use Rattle.std.specs.Prelude.{◌≡◌, ℕ, ◌+◌, nat_eq, Bool, true, false, ◌&&◌, IsTrue, List, [], ◌∷◌, ◌++◌, length, map, Option, Some, None, Result, Ok, Err}
+use Rattle.std.specs.Prelude.{◌≡◌, ℕ, ◌+◌, nat_eq, Bool, true, false, ◌&&◌, IsTrue, List, [], ◌∷◌, ◌++◌, length, map, Option, Some}
+use Rattle.std.specs.Prelude.{None, Result, Ok, Err}
 use Rattle.ncc_pack.specs.declared.value.Value.{Value}
 use Rattle.ncc_pack.specs.declared.value.Value.TheVariants as v
 use Rattle.ncc_pack.specs.declared.error.PackError.TheVariants as p
@@ -8,9 +9,10 @@ use Rattle.ncc_pack.specs.Fits.{fits}
 use Rattle.ncc_pack.specs.Short.{short}
 use Rattle.ncc_pack.specs.Reading.{read_value}
 use Rattle.ncc_cypher.specs.declared.tree.Statement.{Statement}
-use Rattle.ncc_cypher.specs.Spelled.{Spelled}
+use Rattle.ncc_cypher.specs.Parsed.{parsed}
 use Rattle.ncc_store.specs.declared.step.Step.{Step}
-use Rattle.ncc_tx.specs.declared.shape.Call.{Call}
+use Rattle.ncc_store.specs.Exec.{call_of}
+use Rattle.ncc_store.specs.declared.call.Call.{Call}
 use Rattle.ncc_tx.specs.declared.shape.Shape.{Shape}
 use Rattle.ncc_tx.specs.declared.shape.Shape.TheVariants as h
 use Rattle.ncc_tx.specs.declared.entry.Entry.{Entry}
@@ -41,9 +43,6 @@ shape_value (h.Tx calls told) = pair_value (calls_value calls, told_value told)
 abbrev pub whole : Shape → Bool
 whole h.Noop = true
 whole (h.Tx calls told) = nat_eq (length calls) (length told) && fits (shape_value (h.Tx calls told))
-
-abbrev pub call_of : Step → Call
-call_of s = record { source = s.source; params = s.params }
 
 abbrev pub shape_of : Entry → Shape
 shape_of e.Noop = h.Noop
@@ -79,7 +78,7 @@ pub record IsShape (s : Shape) (bytes : List ℕ) : Type 0 where
 
 -- the source spells a statement
 abbrev pub Parses : Call → Type 0
-Parses c = (s : Statement) × Spelled s c.source
+Parses c = (s : Statement) × (parsed c.source ≡ Ok s)
 
 -- the calls before this one parse, and it does not
 pub data Fails : ℕ → List Call → Type 0 where
@@ -93,7 +92,7 @@ IsStepsOf calls (Err (BadStatement n)) = Fails n calls
 IsStepsOf calls (Err Memory) = Unit {0}
 IsStepsOf calls (Err e) = ⊥
 
--- these steps, or want of memory
+-- these steps, unless memory runs out
 abbrev pub StepsOrMemory : List Step → Result (List Step) EntryError → Type 0
 StepsOrMemory ss (Err Memory) = Unit {0}
 StepsOrMemory ss r = r ≡ Ok ss
@@ -107,7 +106,7 @@ Refuses bytes BadShape = (x : Value) × (rest : List ℕ) × (read_value bytes �
 Refuses bytes (BadStatement n) = (calls : List Call) × (told : List (List (List Value))) × IsShape (h.Tx calls told) bytes × Fails n calls
 Refuses bytes Memory = Unit {0}
 
--- the first, or want of memory
+-- the first, unless memory runs out
 abbrev pub IsOrMemory : Result Entry EntryError → Result Entry EntryError → Type 0
 IsOrMemory (Err Memory) r = Unit {0}
 IsOrMemory (Err e) r = r ≡ Err e

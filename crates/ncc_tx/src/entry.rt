@@ -3,9 +3,9 @@
 ghost use Rattle.std.specs.Prelude.{◌≡◌, IfOk};
 ghost use Rattle.ncc_tx.specs.declared.entry.EntryError.TheVariants.{Memory};
 
-use ncc_pack::{PackError, Sequence};
-use ncc_store::{RowLists, Steps, copy_row_lists, copy_steps};
-use std::alloc::AllocError;
+use ncc_pack::{Copied, PackError, Sequence};
+use ncc_store::{RowLists, Steps};
+use std::alloc::{AllocError, Global};
 use thiserror::Error;
 
 /// An entry of a history.
@@ -59,9 +59,9 @@ pub struct ChangeSet {
 }
 
 /// Why bytes are no entry.
-#[derive(Clone, Copy, Debug, Error)]
+#[derive(Clone, Copy, Debug, PartialEq, Eq, Error)]
 pub enum EntryError {
-    /// The bytes begin with no value. Want of memory is not said so.
+    /// The bytes begin with no value. That memory ran out is not said so.
     #[error("{0}")]
     Pack(PackError),
     /// They are another value than an entry's, or not its one spelling, or more follows.
@@ -70,7 +70,7 @@ pub enum EntryError {
     /// A source does not parse. `step` is the number of the first such step, from 0.
     #[error("no statement at step {step}")]
     BadStatement { step: u64 },
-    /// Want of memory.
+    /// Out of memory.
     #[error("out of memory")]
     Memory,
 }
@@ -86,13 +86,13 @@ impl From<AllocError> for EntryError {
 impl Entry {
     /// An equal entry, on the same allocators.
     pub fn copy(&self) -> Result<Entry, AllocError>
-        ensures { IfOk result (λ e. e ≡ self.now) }
+        ensures equal { IfOk result (λ e. e ≡ self.now) }
     {
         match self {
             Entry::Noop => Ok(Entry::Noop),
             Entry::Tx { steps, told } => {
-                let steps = copy_steps(steps)?;
-                let told = copy_row_lists(told)?;
+                let steps = steps.copy()?;
+                let told = told.copy()?;
                 Ok(Entry::Tx { steps, told })
             }
         }
@@ -102,7 +102,7 @@ impl Entry {
 impl Item {
     /// An equal item, on the same allocators.
     pub fn copy(&self) -> Result<Item, AllocError>
-        ensures { IfOk result (λ i. i ≡ self.now) }
+        ensures equal { IfOk result (λ i. i ≡ self.now) }
     {
         let entry = self.entry.copy()?;
         Ok(Item {
@@ -112,23 +112,36 @@ impl Item {
     }
 }
 
-/// Equal items, on the same allocators.
-pub fn copy_entries(items: &Entries) -> Result<Entries, AllocError>
-    ensures { IfOk result (λ copy. copy ≡ items.now) }
+impl Copied for Item {
+    fn copy(&self) -> Result<Item, AllocError> {
+        Item::copy(self)
+    }
+}
+
+/// Equal items.
+pub fn copy_items(alloc: Global, items: &[Item]) -> Result<Entries, AllocError>
+    ensures equal { IfOk result (λ copy. copy ≡ items.now) }
 {
-    let mut copy = Sequence::new(items.allocator());
-    for item in items.as_slice() {
+    let mut copy = Sequence::new(alloc);
+    for item in items {
         copy.push(item.copy()?)?;
     }
     Ok(copy)
 }
 
+/// Equal items, on the same allocators.
+pub fn copy_entries(items: &Entries) -> Result<Entries, AllocError>
+    ensures equal { IfOk result (λ copy. copy ≡ items.now) }
+{
+    items.copy()
+}
+
 impl Saved {
     /// An equal value, on the same allocators.
     pub fn copy(&self) -> Result<Saved, AllocError>
-        ensures { IfOk result (λ s. s ≡ self.now) }
+        ensures equal { IfOk result (λ s. s ≡ self.now) }
     {
-        let log = copy_entries(&self.log)?;
+        let log = self.log.copy()?;
         Ok(Saved {
             term: self.term,
             vote: self.vote,
@@ -140,9 +153,9 @@ impl Saved {
 impl ChangeSet {
     /// An equal value, on the same allocators.
     pub fn copy(&self) -> Result<ChangeSet, AllocError>
-        ensures { IfOk result (λ c. c ≡ self.now) }
+        ensures equal { IfOk result (λ c. c ≡ self.now) }
     {
-        let items = copy_entries(&self.items)?;
+        let items = self.items.copy()?;
         Ok(ChangeSet {
             term: self.term,
             vote: self.vote,

@@ -6,17 +6,18 @@ ghost use Rattle.ncc_pack.specs.declared.value.Value.TheVariants as value;
 ghost use Rattle.ncc_pack.specs.Fits.{fits};
 ghost use Rattle.ncc_pack.specs.Short.{short};
 ghost use Rattle.ncc_store.specs.declared.step.Step.{Step};
+ghost use Rattle.ncc_store.specs.Exec.{call_of};
 ghost use Rattle.ncc_tx.specs.declared.entry.Entry.{Entry};
 ghost use Rattle.ncc_tx.specs.declared.entry.EntryError.{EntryError};
-ghost use Rattle.ncc_tx.specs.Spelled.{IsOrMemory, IsStepsOf, Refuses, StepsOrMemory, call_of, entry_fits, spelled};
+ghost use Rattle.ncc_tx.specs.Spelled.{IsOrMemory, IsStepsOf, Refuses, StepsOrMemory, entry_fits, spelled};
 
 use crate::entry::{Entry, EntryError};
-use crate::shape::{Call, Calls, Shape, shape_of};
+use crate::shape::{Shape, shape_of};
 use ncc_cypher::ParseError;
 use ncc_pack::{
     Bytes, Memory, PackError, Sequence, Value, decode, encode, fits_deeper, spelled_fits,
 };
-use ncc_store::{Step, Steps};
+use ncc_store::{Call, Calls, Step, Steps};
 use std::alloc::Global;
 
 /// Says whether bytes are the shortest spelling of a value.
@@ -82,3 +83,8 @@ pub fn entry_of(alloc: Global, bytes: &[u8]) -> Result<Entry, EntryError>
         }
     }
 }
+
+/// Two entries that fit and have one spelling are equal.
+pub fn one_spelling()
+    ensures one { (x y : Entry) → IsTrue (entry_fits x) → IsTrue (entry_fits y) → spelled x ≡ spelled y → x ≡ y }
+{}

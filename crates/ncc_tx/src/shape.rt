@@ -3,19 +3,9 @@
 ghost use Rattle.std.specs.Prelude.{IfOk};
 ghost use Rattle.ncc_tx.specs.Spelled.{Reads, ReadsShape, call_value, calls_value, pair_value, rows_value, told_value};
 
-use ncc_pack::{Dict, Memory, Sequence, Text, Value, Values};
-use ncc_store::{RowLists, Rows};
+use ncc_pack::{Memory, Rows, Sequence, Value};
+use ncc_store::{Call, Calls, RowLists};
 use std::alloc::Global;
-
-/// A step before its source is parsed.
-#[derive(Debug, Drop)]
-pub(crate) struct Call {
-    pub(crate) source: Text,
-    pub(crate) params: Dict,
-}
-
-/// A list of calls.
-pub(crate) type Calls = Sequence<Call>;
 
 /// What an entry is but for the statements that its sources spell.
 #[derive(Debug, Drop)]

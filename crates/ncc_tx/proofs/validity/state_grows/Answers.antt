@@ -4,4 +4,4 @@ use Rattle.ncc_tx.proofs.Meant.{grows}
 use Rattle.ncc_tx.proofs.validity.state_grows.Goals as goal
 
 pub returns : goal.returns
-returns c = grows (empty (pos 0))
+returns c = record { grows = grows (empty (pos 0)) }

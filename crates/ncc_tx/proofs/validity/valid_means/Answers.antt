@@ -2,4 +2,4 @@ use Rattle.ncc_tx.proofs.Meant.{means}
 use Rattle.ncc_tx.proofs.validity.valid_means.Goals as goal
 
 pub returns : goal.returns
-returns c = means
+returns c = record { means = means }

@@ -3,7 +3,7 @@ use Rattle.ncc_pack.specs.declared.value.Value.TheVariants as v
 use Rattle.ncc_pack.specs.Spells.{lists}
 use Rattle.ncc_pack.specs.Short.{head}
 use Rattle.ncc_pack.proofs.Sizes.{greatest}
-use Rattle.ncc_tx.proofs.Items.{spelled_to}
+use Rattle.ncc_tx.proofs.Listed.{spelled_to}
 use Rattle.ncc_tx.proofs.write.rows_len.Given as goal
 
 abbrev pub invariant-loop-row : goal.invariant-loop-row

@@ -1,7 +1,8 @@
 use Rattle.std.proofs.Common.{◌≡◌, true, take}
 use Rattle.std.specs.List.{list_all}
 use Rattle.ncc_pack.specs.Fits.{fits_within}
-use Rattle.ncc_tx.specs.Spelled.{call_of, call_value}
+use Rattle.ncc_store.specs.Exec.{call_of}
+use Rattle.ncc_tx.specs.Spelled.{call_value}
 use Rattle.ncc_tx.proofs.write.steps_fit.Given as goal
 
 abbrev pub invariant-loop-step : goal.invariant-loop-step

@@ -3,7 +3,7 @@ use Rattle.ncc_tx.specs.Spelled.{rows_value}
 use Rattle.ncc_pack.specs.Spells.{lists}
 use Rattle.ncc_pack.specs.Short.{head}
 use Rattle.ncc_pack.proofs.Sizes.{greatest}
-use Rattle.ncc_tx.proofs.Items.{spelled_to}
+use Rattle.ncc_tx.proofs.Listed.{spelled_to}
 use Rattle.ncc_tx.proofs.write.told_len.Given as goal
 
 abbrev pub invariant-loop-rows : goal.invariant-loop-rows

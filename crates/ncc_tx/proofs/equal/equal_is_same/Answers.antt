@@ -1,5 +1,0 @@
-use Rattle.ncc_tx.proofs.Decided.{lists_decided}
-use Rattle.ncc_tx.proofs.equal.equal_is_same.Goals as goal
-
-pub returns : goal.returns
-returns c = lists_decided

@@ -1,0 +1,12 @@
+use Rattle.std.proofs.Common.{◌+◌, length, vec_capacity, vec_len, arith}
+use Rattle.std.proofs.lemmas.Result.{on_err_weaker}
+use Rattle.ncc_pack.specs.declared.value.Value.TheVariants as v
+use Rattle.ncc_pack.specs.Short.{short}
+use Rattle.ncc_tx.proofs.ItemBytes.{full_of}
+use Rattle.ncc_tx.proofs.write.put_values.Goals as goal
+
+pub returns-clause-full : goal.returns-clause-full
+returns-clause-full c =
+    let into = c.args.into.now in
+    on_err_weaker c.encode_values_within.result (λ small. omega (arith, small, into.ok.0))
+    (full_of c.encode_values_within.result (vec_len into + length (short (v.List c.args.values.now))) (vec_capacity into) c.encode_values_within.ensures.roomy)
