@@ -1,0 +1,199 @@
+//! Values, rows and stores in the notation of values.
+
+use crate::escape::show_marked;
+use crate::stop::Stop;
+use crate::words::show_bytes;
+use ncc_pack::{Dict, NodeValue, Value, Values};
+use ncc_store::{Rows, Store};
+use std::alloc::Global;
+
+/// Equal rows that come more often than this, one behind the other, are shown once, with their number.
+const MANY_ROWS: usize = 4;
+
+/// Of a store with more nodes than this the first are shown, with the number of all.
+const MANY_NODES: u64 = 6;
+
+/// Says whether a text is a name, which needs no quotes as a key or label.
+fn is_name(text: &str) -> bool {
+    let first = text.as_bytes().first().copied().unwrap_or(b'0');
+    let all = text
+        .as_bytes()
+        .iter()
+        .all(|byte| byte.is_ascii_alphanumeric() || *byte == b'_');
+    all && !first.is_ascii_digit()
+}
+
+/// Appends a key or a label.
+fn show_name(name: &str, into: &mut String) -> Result<(), Stop> {
+    if is_name(name) {
+        into.push_str(name)?;
+        return Ok(());
+    }
+    show_marked(name, '"', into)
+}
+
+/// Appends values with a comma between two.
+#[cycle(showing)]
+pub(crate) fn show_values(values: &Values, into: &mut String) -> Result<(), Stop> {
+    let mut front = "";
+    for value in values.as_slice() {
+        into.push_str(front)?;
+        show_value(value, into)?;
+        front = ", ";
+    }
+    Ok(())
+}
+
+/// Appends a list.
+#[cycle(showing)]
+pub(crate) fn show_list(values: &Values, into: &mut String) -> Result<(), Stop> {
+    into.push_str("[")?;
+    show_values(values, into)?;
+    into.push_str("]")?;
+    Ok(())
+}
+
+/// Appends a dictionary.
+#[cycle(showing)]
+pub(crate) fn show_dict(pairs: &Dict, into: &mut String) -> Result<(), Stop> {
+    into.push_str("{")?;
+    let mut front = "";
+    for pair in pairs.as_slice() {
+        into.push_str(front)?;
+        show_name(pair.0.as_str(), into)?;
+        into.push_str(": ")?;
+        show_value(&pair.1, into)?;
+        front = ", ";
+    }
+    into.push_str("}")?;
+    Ok(())
+}
+
+#[cycle(showing)]
+fn show_labels(labels: &Values, into: &mut String) -> Result<(), Stop> {
+    for label in labels.as_slice() {
+        into.push_str(":")?;
+        match label {
+            Value::Text(name) => show_name(name.as_str(), into)?,
+            other => show_value(other, into)?,
+        }
+    }
+    Ok(())
+}
+
+#[cycle(showing)]
+fn show_props(props: &Dict, into: &mut String) -> Result<(), Stop> {
+    if !props.is_empty() {
+        into.push_str(" ")?;
+        show_dict(props, into)?;
+    }
+    into.push_str(")")?;
+    Ok(())
+}
+
+#[cycle(showing)]
+fn show_node(node: &NodeValue, into: &mut String) -> Result<(), Stop> {
+    let id = node.id;
+    write!(into, "({id}")?;
+    show_labels(&node.labels, into)?;
+    show_props(&node.props, into)
+}
+
+/// Appends a value.
+#[cycle(showing)]
+pub(crate) fn show_value(value: &Value, into: &mut String) -> Result<(), Stop> {
+    match value {
+        Value::Null => into.push_str("null")?,
+        Value::Bool(truth) => write!(into, "{truth}")?,
+        Value::Int(number) => write!(into, "{number}")?,
+        Value::Bytes(bytes) => {
+            into.push_str("<")?;
+            show_bytes(bytes.as_slice(), into)?;
+            into.push_str(">")?;
+        }
+        Value::Text(text) => show_marked(text.as_str(), '"', into)?,
+        Value::List(values) => show_list(values, into)?,
+        Value::Dict(pairs) => show_dict(pairs, into)?,
+        Value::Node(node) => show_node(node, into)?,
+    }
+    Ok(())
+}
+
+/// Appends a row so often.
+fn show_row(row: &str, times: usize, front: &str, into: &mut String) -> Result<(), Stop> {
+    if times > MANY_ROWS {
+        write!(into, "{front}{row} * {times}")?;
+        return Ok(());
+    }
+    let mut front = front;
+    for _ in 0..times {
+        write!(into, "{front}{row}")?;
+        front = "; ";
+    }
+    Ok(())
+}
+
+/// Appends rows with `; ` between two, or `no rows`.
+pub(crate) fn show_rows(alloc: Global, rows: &Rows, into: &mut String) -> Result<(), Stop> {
+    if rows.is_empty() {
+        into.push_str("no rows")?;
+        return Ok(());
+    }
+    let mut last = String::new(alloc);
+    let mut times = 0usize;
+    let mut front = "";
+    for row in rows.as_slice() {
+        let mut shown = String::new(alloc);
+        show_values(row, &mut shown)?;
+        if times > 0 && shown.as_str() != last.as_str() {
+            show_row(last.as_str(), times, front, into)?;
+            front = "; ";
+            times = 0;
+        }
+        last = shown;
+        times = times.saturating_add(1);
+    }
+    show_row(last.as_str(), times, front, into)
+}
+
+/// Appends the node of a store that has an id, if there is one.
+fn show_stored(store: &Store, id: i64, front: &str, into: &mut String) -> Result<bool, Stop> {
+    match store.node(id) {
+        None => Ok(false),
+        Some(node) => {
+            write!(into, "{front}({id}:")?;
+            show_name(node.label.as_str(), into)?;
+            show_props(&node.props, into)?;
+            Ok(true)
+        }
+    }
+}
+
+/// Appends the nodes of a store, or `no nodes`, and where its next id is not the one behind the last of them, this id. Of many
+/// nodes it shows the first.
+pub(crate) fn show_store(store: &Store, into: &mut String) -> Result<(), Stop> {
+    let count = store.len();
+    let first = if store.next() > 1000 && count < 3 {
+        store.next().saturating_sub(3)
+    } else {
+        0
+    };
+    let mut shown = 0u64;
+    let mut front = "";
+    for id in 0i64..100_000 {
+        if shown >= MANY_NODES || shown >= count {
+            break;
+        }
+        if show_stored(store, id.saturating_add(first), front, into)? {
+            shown = shown.saturating_add(1);
+            front = " ";
+        }
+    }
+    if shown < count {
+        write!(into, " .. {count} nodes")?;
+    }
+    if count == 0 {
+        into.push_str("no nodes")?;
+    }
+    Ok(())
+}
