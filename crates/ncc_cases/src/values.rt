@@ -20,43 +20,31 @@ use ncc_pack::{
 };
 use std::alloc::Global;
 
-/// Appends the shortest bytes of a copy of a value. Says whether they are as many as is told, and are read as the value again, also
-/// behind a byte and in front of another.
+/// Appends the shortest bytes of a value, to none. Says whether they are as many as is told, and are read as a value with the same
+/// shortest bytes, also behind a byte and in front of another.
 pub(crate) fn spell(alloc: Global, value: &Value, into: &mut Bytes) -> Result<bool, Stop> {
-    let copy = value.copy()?;
-    if !value.fits() || !copy.fits() {
+    if !value.fits() {
         return Ok(false);
     }
-    encode(&copy, into)?;
     let mut behind = Bytes::from_slice(alloc, &[9])?;
     encode(value, &mut behind)?;
-    let same = behind.as_slice().get(1..) == Some(into.as_slice());
+    let end = behind.len();
     behind.push(9)?;
-    let len = into.len() as u64;
-    if !same || short_len(value) != len || behind.len() < 1 {
-        return Ok(false);
+    let again = match decode_at(alloc, behind.as_slice(), 1) {
+        Ok((again, _)) => again,
+        Err(_) => return Ok(false),
+    };
+    if again.fits() {
+        encode(&again, into)?;
     }
-    match decode_at(alloc, behind.as_slice(), 1) {
-        Ok((again, found)) => Ok(
-            found as u64 == len && is_spelled(alloc, &again, into.as_slice())?,
-        ),
-        Err(_) => Ok(false),
-    }
-}
-
-/// Says whether these are the shortest bytes of a value.
-fn is_spelled(alloc: Global, value: &Value, bytes: &[u8]) -> Result<bool, Stop> {
-    let mut short = Bytes::new(alloc);
-    if value.fits() {
-        encode(value, &mut short)?;
-    }
-    Ok(short.as_slice() == bytes)
+    let told = short_len(value) == into.len() as u64;
+    Ok(told && behind.as_slice().get(1..end) == Some(into.as_slice()))
 }
 
 /// Appends the shortest bytes of a value where they are others than those it was read from.
 fn show_short(alloc: Global, value: &Value, read: &[u8], into: &mut String) -> Result<(), Stop> {
     let mut short = Bytes::new(alloc);
-    if !spell(alloc, value, &mut short)? {
+    if !spell(alloc, &value.copy()?, &mut short)? {
         into.push_str(", which is not written and read again")?;
     }
     if short.as_slice() != read {
