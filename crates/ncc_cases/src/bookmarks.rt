@@ -20,18 +20,15 @@ fn show_read(alloc: Global, text: &str, cluster: u64, into: &mut String) -> Resu
     Ok(())
 }
 
-/// The bookmark of two numbers.
-fn bookmark_of(line: &str) -> Result<(u64, Bookmark), Stop> {
+/// The number of a cluster, and a place.
+fn pair_of(line: &str) -> Result<(u64, u64), Stop> {
     let (cluster, place) = line.split_once(' ').ok_or(Stop::Unreadable("a place"))?;
-    let cluster = cluster.parse::<u64>()?;
-    Ok((
-        cluster,
-        Bookmark::of(cluster, place.trim_ascii().parse::<u64>()?),
-    ))
+    Ok((cluster.parse::<u64>()?, place.trim_ascii().parse::<u64>()?))
 }
 
 fn spelled(alloc: Global, line: &str, into: &mut String) -> Result<(), Stop> {
-    let (cluster, bookmark) = bookmark_of(line)?;
+    let (cluster, place) = pair_of(line)?;
+    let bookmark = Bookmark::of(cluster, place);
     let text = bookmark.text(alloc)?;
     into.push_str(text.as_str())?;
     match Bookmark::read(alloc, text.as_str(), cluster) {
@@ -70,8 +67,8 @@ fn needed(alloc: Global, line: &str, into: &mut String) -> Result<(), Stop> {
     let mut bookmarks = Vec::new(alloc);
     if line != "none" {
         for pair in line.split(',') {
-            let (_, bookmark) = bookmark_of(pair.trim_ascii())?;
-            bookmarks.push(bookmark)?;
+            let (cluster, place) = pair_of(pair.trim_ascii())?;
+            bookmarks.push(Bookmark::of(cluster, place))?;
         }
     }
     write!(into, "{}", need(bookmarks.as_slice()))?;

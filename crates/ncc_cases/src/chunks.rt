@@ -195,15 +195,31 @@ fn chunks(alloc: Global, line: &str, into: &mut String) -> Result<(), Stop> {
     show_bytes(out.as_slice(), into)
 }
 
+/// Says what is large of a request.
+fn show_large(request: &Request, into: &mut String) -> Result<(), Stop> {
+    match request {
+        Request::Run { query, .. } => {
+            let len = query.len();
+            write!(into, "query {len}")?;
+        }
+        Request::Route { bookmarks, .. } => {
+            let len = bookmarks.len();
+            write!(into, "bookmarks {len}")?;
+        }
+        _ => into.push_str("another message")?,
+    }
+    Ok(())
+}
+
 /// Says what is large of a message.
 fn show_size(alloc: Global, message: &[u8], into: &mut String) -> Result<(), Stop> {
     match read_request(alloc, message) {
-        Ok(Request::Run { query, .. }) => write!(into, "query {}", query.len())?,
-        Ok(Request::Route { bookmarks, .. }) => write!(into, "bookmarks {}", bookmarks.len())?,
-        Ok(_) => into.push_str("another message")?,
-        Err(error) => write!(into, "{error}")?,
+        Ok(request) => show_large(&request, into),
+        Err(error) => {
+            write!(into, "{error}")?;
+            Ok(())
+        }
     }
-    Ok(())
 }
 
 fn large(alloc: Global, line: &str, into: &mut String) -> Result<(), Stop> {

@@ -25,25 +25,44 @@ struct Reading {
     done: Values,
 }
 
-/// An open value with a value more.
-fn with(open: Open, value: Value) -> Result<Open, Stop> {
-    match (open, value) {
-        (Open::List(mut values), value) => {
-            values.push(value)?;
-            Ok(Open::List(values))
-        }
-        (Open::Dict(mut pairs, Some(key)), value) => {
+/// A dictionary with a value more: the next key, or the value of a key.
+fn with_pair(pairs: Dict, key: Option<Text>, value: Value) -> Result<Open, Stop> {
+    let mut pairs = pairs;
+    match key {
+        Some(key) => {
             pairs.push((key, value))?;
             Ok(Open::Dict(pairs, None))
         }
-        (Open::Dict(pairs, None), Value::Text(key)) => Ok(Open::Dict(pairs, Some(key))),
-        (Open::Node(_, labels, props), Value::Int(id)) => Ok(Open::Node(id, labels, props)),
-        (Open::Node(id, labels, _), Value::Dict(props)) => Ok(Open::Node(id, labels, props)),
-        (Open::Node(id, mut labels, props), label) => {
+        None => match value {
+            Value::Text(key) => Ok(Open::Dict(pairs, Some(key))),
+            _ => Err(Stop::Unreadable("a key")),
+        },
+    }
+}
+
+/// A node with its id, its properties or a label more.
+fn with_part(id: i64, labels: Values, props: Dict, value: Value) -> Result<Open, Stop> {
+    let mut labels = labels;
+    match value {
+        Value::Int(id) => Ok(Open::Node(id, labels, props)),
+        Value::Dict(props) => Ok(Open::Node(id, labels, props)),
+        label => {
             labels.push(label)?;
             Ok(Open::Node(id, labels, props))
         }
-        _ => Err(Stop::Unreadable("a place for a value")),
+    }
+}
+
+/// An open value with a value more.
+fn with(open: Open, value: Value) -> Result<Open, Stop> {
+    match open {
+        Open::List(mut values) => {
+            values.push(value)?;
+            Ok(Open::List(values))
+        }
+        Open::Dict(pairs, key) => with_pair(pairs, key, value),
+        Open::Node(id, labels, props) => with_part(id, labels, props, value),
+        Open::Bytes(_) => Err(Stop::Unreadable("bytes alone")),
     }
 }
 
@@ -92,6 +111,16 @@ impl Reading {
         self.put(closed(open))
     }
 
+    /// A word without quotes in a dictionary: a key, or the value of one.
+    fn plain_in_dict(&mut self, pairs: Dict, key: Option<Text>, word: &str) -> Result<(), Stop> {
+        let value = match &key {
+            None => Value::Text(Text::from_str(self.alloc, word)?),
+            Some(_) => scalar(word)?,
+        };
+        let open = with_pair(pairs, key, value)?;
+        self.begin(open)
+    }
+
     /// A word without quotes: a key, a label, hex or a value, by where it stands.
     fn plain(&mut self, word: &str) -> Result<(), Stop> {
         match self.open.pop() {
@@ -99,10 +128,7 @@ impl Reading {
                 put_word(word, &mut bytes)?;
                 self.begin(Open::Bytes(bytes))
             }
-            Some(Open::Dict(pairs, None)) => {
-                let key = Text::from_str(self.alloc, word)?;
-                self.begin(Open::Dict(pairs, Some(key)))
-            }
+            Some(Open::Dict(pairs, key)) => self.plain_in_dict(pairs, key, word),
             Some(Open::Node(id, labels, props)) => {
                 self.begin(Open::Node(id, labels, props))?;
                 match scalar(word) {

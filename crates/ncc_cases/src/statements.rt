@@ -59,6 +59,14 @@ fn printed(alloc: Global, source: &str) -> Result<(Text, String), ParseError> {
     Ok((print(alloc, &read)?, names))
 }
 
+/// Says whether what is printed of a source is the source.
+fn prints_itself(alloc: Global, source: &str) -> bool {
+    match printed(alloc, source) {
+        Ok((text, _)) => text.as_str() == source,
+        Err(_) => false,
+    }
+}
+
 /// What a source is read as. What is printed of it is read again, and prints the same.
 fn read(alloc: Global, source: &str, into: &mut String) -> Result<(), Stop> {
     let (text, names) = match printed(alloc, source) {
@@ -68,9 +76,8 @@ fn read(alloc: Global, source: &str, into: &mut String) -> Result<(), Stop> {
             return Ok(());
         }
     };
-    match printed(alloc, text.as_str()) {
-        Ok((again, _)) if again.as_str() == text.as_str() => {}
-        _ => into.push_str("printed otherwise again: ")?,
+    if !prints_itself(alloc, text.as_str()) {
+        into.push_str("printed otherwise again: ")?;
     }
     if text.as_str() == source {
         into.push_str("same")?;

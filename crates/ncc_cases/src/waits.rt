@@ -6,14 +6,13 @@ use crate::stop::Stop;
 use ncc_wait::outcome;
 use std::alloc::Global;
 
-/// The number that comes next.
-fn next<'a>(words: &mut impl Iterator<Item = &'a str>) -> Result<u64, Stop> {
-    Ok(
-        words
-            .next()
-            .ok_or(Stop::Unreadable("four numbers"))?
-            .parse::<u64>()?,
-    )
+/// The numbers of a line.
+fn numbers_of(alloc: Global, line: &str) -> Result<Vec<u64>, Stop> {
+    let mut numbers = Vec::new(alloc);
+    for word in line.split_whitespace() {
+        numbers.push(word.parse::<u64>()?)?;
+    }
+    Ok(numbers)
 }
 
 /// What comes of a line.
@@ -21,11 +20,11 @@ pub(crate) fn answer(alloc: Global, section: &str, line: &str) -> Result<String,
     if section != "waits" {
         return Err(Stop::Unreadable("a section of this folder"));
     }
-    let mut words = line.split_whitespace();
-    let at = next(&mut words)?;
-    let need = next(&mut words)?;
-    let now = next(&mut words)?;
-    let deadline = next(&mut words)?;
-    let found = outcome(at, need, now, deadline);
-    Ok(format!(in alloc; "{found:?}")?)
+    match numbers_of(alloc, line)?.as_slice() {
+        [at, need, now, deadline] => {
+            let found = outcome(*at, *need, *now, *deadline);
+            Ok(format!(in alloc; "{found:?}")?)
+        }
+        _ => Err(Stop::Unreadable("four numbers")),
+    }
 }

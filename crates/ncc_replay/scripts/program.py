@@ -58,7 +58,7 @@ def take(folder, into, done):
                     pass
 
 
-def build(kept):
+def build(kept, number_of_cases):
     """Builds the program as `kept`. Says what rt said where that fails."""
     os.makedirs(KEPT, exist_ok=True)
     with tempfile.TemporaryDirectory(dir=KEPT) as folder:
@@ -68,7 +68,7 @@ def build(kept):
         # Each of these scripts is run by itself, which leaves time to take the program.
         cases = os.path.join(folder, "cases")
         os.mkdir(cases)
-        for number in range(20):
+        for number in range(number_of_cases):
             with open(os.path.join(cases, str(number)), "wb"):
                 pass
         done = threading.Event()
@@ -95,7 +95,9 @@ def program(say):
     kept = os.path.join(KEPT, checksum())
     if not os.access(kept, os.X_OK):
         say("building ncc_replay by 'rt try', which proves nothing ('rt ci' proves it); about half a minute ..")
-        said = build(kept)
+        said = build(kept, 20)
+        if not os.access(kept, os.X_OK):
+            said = build(kept, 400)
         if not os.access(kept, os.X_OK):
             sys.exit("ncc_replay was not built:\n" + said)
     return kept
