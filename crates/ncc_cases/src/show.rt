@@ -32,24 +32,17 @@ fn show_name(name: &str, into: &mut String) -> Result<(), Stop> {
     show_marked(name, '"', into)
 }
 
-/// Appends values with a comma between two.
+/// Appends values between two marks, with a comma between two values.
 #[cycle(showing)]
-pub(crate) fn show_values(values: &Values, into: &mut String) -> Result<(), Stop> {
+fn show_values(values: &Values, marks: (&str, &str), into: &mut String) -> Result<(), Stop> {
+    into.push_str(marks.0)?;
     let mut front = "";
     for value in values.as_slice() {
         into.push_str(front)?;
         show_value(value, into)?;
         front = ", ";
     }
-    Ok(())
-}
-
-/// Appends a list.
-#[cycle(showing)]
-pub(crate) fn show_list(values: &Values, into: &mut String) -> Result<(), Stop> {
-    into.push_str("[")?;
-    show_values(values, into)?;
-    into.push_str("]")?;
+    into.push_str(marks.1)?;
     Ok(())
 }
 
@@ -82,21 +75,16 @@ fn show_labels(labels: &Values, into: &mut String) -> Result<(), Stop> {
 }
 
 #[cycle(showing)]
-fn show_props(props: &Dict, into: &mut String) -> Result<(), Stop> {
-    if !props.is_empty() {
-        into.push_str(" ")?;
-        show_dict(props, into)?;
-    }
-    into.push_str(")")?;
-    Ok(())
-}
-
-#[cycle(showing)]
 fn show_node(node: &NodeValue, into: &mut String) -> Result<(), Stop> {
     let id = node.id;
     write!(into, "({id}")?;
     show_labels(&node.labels, into)?;
-    show_props(&node.props, into)
+    if !node.props.is_empty() {
+        into.push_str(" ")?;
+        show_dict(&node.props, into)?;
+    }
+    into.push_str(")")?;
+    Ok(())
 }
 
 /// Appends a value.
@@ -112,11 +100,16 @@ pub(crate) fn show_value(value: &Value, into: &mut String) -> Result<(), Stop> {
             into.push_str(">")?;
         }
         Value::Text(text) => show_marked(text.as_str(), '"', into)?,
-        Value::List(values) => show_list(values, into)?,
+        Value::List(values) => show_values(values, ("[", "]"), into)?,
         Value::Dict(pairs) => show_dict(pairs, into)?,
         Value::Node(node) => show_node(node, into)?,
     }
     Ok(())
+}
+
+/// Appends a list.
+pub(crate) fn show_list(values: &Values, into: &mut String) -> Result<(), Stop> {
+    show_values(values, ("[", "]"), into)
 }
 
 /// Appends a row so often.
@@ -144,7 +137,7 @@ pub(crate) fn show_rows(alloc: Global, rows: &Rows, into: &mut String) -> Result
     let mut front = "";
     for row in rows.as_slice() {
         let mut shown = String::new(alloc);
-        show_values(row, &mut shown)?;
+        show_values(row, ("", ""), &mut shown)?;
         if times > 0 && shown.as_str() != last.as_str() {
             show_row(last.as_str(), times, front, into)?;
             front = "; ";
@@ -163,7 +156,11 @@ fn show_stored(store: &Store, id: i64, front: &str, into: &mut String) -> Result
         Some(node) => {
             write!(into, "{front}({id}:")?;
             show_name(node.label.as_str(), into)?;
-            show_props(&node.props, into)?;
+            if !node.props.is_empty() {
+                into.push_str(" ")?;
+                show_dict(&node.props, into)?;
+            }
+            into.push_str(")")?;
             Ok(true)
         }
     }
