@@ -9,9 +9,9 @@
 //!
 //! Given: what runs are given.
 
+use crate::given::{params_of, push_step, store_of};
 use crate::notation::row_lists_of;
 use crate::page::Case;
-use crate::runs::{params_of, push_step, store_of};
 use crate::show::show_store;
 use crate::stop::Stop;
 use crate::words::{bytes_of, show_bytes_and_texts};
@@ -33,7 +33,12 @@ fn given_rows(alloc: Global, store: &Store, steps: &Steps) -> Result<RowLists, S
 }
 
 /// The entry of a line over a store.
-fn entry_in(alloc: Global, store: &Store, given: &[&str], line: &str) -> Result<Entry, Stop> {
+pub(crate) fn entry_in(
+    alloc: Global,
+    store: &Store,
+    given: &[&str],
+    line: &str,
+) -> Result<Entry, Stop> {
     if line == "noop" {
         return Ok(Entry::Noop);
     }

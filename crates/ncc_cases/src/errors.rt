@@ -6,20 +6,22 @@ use crate::routes::role_of;
 use crate::stop::Stop;
 use ncc_bolt::MessageError;
 use ncc_bookmark::BookmarkError;
+use ncc_chunk::Dechunk;
 use ncc_cypher::{ParseError, SyntaxKind};
 use ncc_pack::PackError;
 use ncc_route::NoServer;
 use ncc_store::{RunError, RunFault};
-use ncc_tx::EntryError;
+use ncc_tx::{EntryError, ItemError, ItemField};
 use std::alloc::Global;
 
-/// An error of a line: its type, its variant, and two numbers, which are 0 where they don't stand there.
+/// An error of a line: its type, its variant, and three numbers, which are 0 where they don't stand there.
 #[derive(Drop)]
 struct Named<'a> {
     kind: &'a str,
     variant: &'a str,
     first: u64,
     second: u64,
+    third: u64,
 }
 
 fn number(word: Option<&str>) -> Result<u64, Stop> {
@@ -38,11 +40,13 @@ fn error_in(line: &str) -> Result<Named<'_>, Stop> {
         _ => number(words.next())?,
     };
     let second = number(words.next())?;
+    let third = number(words.next())?;
     Ok(Named {
         kind,
         variant,
         first,
         second,
+        third,
     })
 }
 
@@ -76,6 +80,7 @@ fn message_error(error: &Named<'_>) -> Result<MessageError, Stop> {
         "WrongKind" => Ok(MessageError::WrongKind {
             tag,
             field: small(error.second)?,
+            at: error.third,
         }),
         "Rest" => Ok(MessageError::Rest { at: error.first }),
         "Memory" => Ok(MessageError::Memory),
@@ -108,17 +113,23 @@ fn parse_error(error: &Named<'_>) -> Result<ParseError, Stop> {
     }
 }
 
+fn run_fault(variant: &str) -> Result<RunFault, Stop> {
+    match variant {
+        "MissingParameter" => Ok(RunFault::MissingParameter),
+        "WrongKind" => Ok(RunFault::WrongKind),
+        "Overflow" => Ok(RunFault::Overflow),
+        "NullMerge" => Ok(RunFault::NullMerge),
+        "TooLong" => Ok(RunFault::TooLong),
+        "TooManyRows" => Ok(RunFault::TooManyRows),
+        "IdsSpent" => Ok(RunFault::IdsSpent),
+        _ => Err(Stop::Unreadable("a variant of RunFault")),
+    }
+}
+
 fn run_error(variant: &str) -> Result<RunError, Stop> {
     match variant {
-        "MissingParameter" => Ok(RunError::Fault(RunFault::MissingParameter)),
-        "WrongKind" => Ok(RunError::Fault(RunFault::WrongKind)),
-        "Overflow" => Ok(RunError::Fault(RunFault::Overflow)),
-        "NullMerge" => Ok(RunError::Fault(RunFault::NullMerge)),
-        "TooLong" => Ok(RunError::Fault(RunFault::TooLong)),
-        "TooManyRows" => Ok(RunError::Fault(RunFault::TooManyRows)),
-        "IdsSpent" => Ok(RunError::Fault(RunFault::IdsSpent)),
         "Memory" => Ok(RunError::Memory),
-        _ => Err(Stop::Unreadable("a variant of RunError")),
+        fault => Ok(RunError::Fault(run_fault(fault)?)),
     }
 }
 
@@ -131,12 +142,34 @@ fn entry_error(error: &Named<'_>) -> Result<EntryError, Stop> {
     }
 }
 
+fn dechunk_error(variant: &str) -> Result<Dechunk, Stop> {
+    match variant {
+        "Again" => Ok(Dechunk::Again),
+        "TooLong" => Ok(Dechunk::TooLong),
+        "Memory" => Ok(Dechunk::Memory),
+        _ => Err(Stop::Unreadable("a variant of Dechunk")),
+    }
+}
+
+fn item_error(variant: &str) -> Result<ItemError, Stop> {
+    match variant {
+        "Term" => Ok(ItemError::Wrong(ItemField::Term)),
+        "Size" => Ok(ItemError::Wrong(ItemField::Size)),
+        "Entry" => Ok(ItemError::Wrong(ItemField::Entry)),
+        "Memory" => Ok(ItemError::Memory),
+        _ => Err(Stop::Unreadable("a variant of ItemError")),
+    }
+}
+
 fn show_error(error: &Named<'_>, into: &mut String) -> Result<(), Stop> {
     match error.kind {
         "PackError" => write!(into, "{}", pack_error(error.variant, error.first)?)?,
         "MessageError" => write!(into, "{}", message_error(error)?)?,
+        "Dechunk" => write!(into, "{}", dechunk_error(error.variant)?)?,
+        "ItemError" => write!(into, "{}", item_error(error.variant)?)?,
         "BookmarkError" => write!(into, "{}", bookmark_error(error)?)?,
         "ParseError" => write!(into, "{}", parse_error(error)?)?,
+        "RunFault" => write!(into, "{}", run_fault(error.variant)?)?,
         "RunError" => write!(into, "{}", run_error(error.variant)?)?,
         "EntryError" => write!(into, "{}", entry_error(error)?)?,
         "NoServer" => {

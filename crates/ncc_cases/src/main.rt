@@ -9,7 +9,10 @@ mod chunks;
 mod entries;
 mod errors;
 mod escape;
+mod given;
 mod handshakes;
+mod items;
+mod laws;
 mod messages;
 mod notation;
 mod page;
@@ -89,6 +92,7 @@ fn read_input(rt: &(impl Input + AllocGlobal)) -> io::Result<String> {
 
 fn main(rt: HostRuntime) -> io::Result<ExitCode> {
     let arguments: Vec<String> = env::args(&rt)?.collect(rt.alloc())?;
+    laws::state_laws();
     let mut count = Count::new();
     match arguments.as_slice() {
         [_, subject] => {

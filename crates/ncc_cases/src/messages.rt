@@ -1,14 +1,19 @@
 //! Messages of Bolt 4.4 (section "Messages").
 //!
 //! - `requests`, `responses`: bytes. Comes: the message, and behind `|` its shortest bytes where these are others; or why there is none.
+//! - `rows`: a list. Comes: the bytes of the RECORD that is written of it.
 //! - `names of requests`, `names of responses`: bytes. Comes: the message's name alone, or why there is none.
 
 use crate::escape::show_marked;
+use crate::notation::value_of;
 use crate::show::{show_dict, show_list};
 use crate::stop::Stop;
 use crate::words::{bytes_of, show_bytes};
-use ncc_bolt::{Request, Response, read_request, read_response, write_request, write_response};
-use ncc_pack::{Bytes, Dict};
+use ncc_bolt::{
+    Request, Response, read_request, read_response, write_request, write_request_within,
+    write_response, write_response_within, write_row, write_row_within,
+};
+use ncc_pack::{Bytes, Dict, Value, values_fit};
 use std::alloc::Global;
 
 /// The name of a request in the standard.
@@ -100,6 +105,17 @@ pub(crate) fn show_response(response: &Response, into: &mut String) -> Result<()
     }
 }
 
+/// Says behind a message whether it is written into just as much room as it takes.
+fn show_room(short: &[u8], bytes: &[u8], capacity: usize, into: &mut String) -> Result<(), Stop> {
+    let same = short == bytes && capacity == short.len();
+    into.push_str(if same {
+        ""
+    } else {
+        ", written otherwise into its room"
+    })?;
+    Ok(())
+}
+
 /// Appends the shortest bytes of a message where they are others than those it was read from. They were written behind a 9.
 fn show_short(written: &Bytes, read: &Bytes, into: &mut String) -> Result<(), Stop> {
     let short = match written.as_slice() {
@@ -128,6 +144,10 @@ fn answer_of_request(alloc: Global, bytes: &Bytes, into: &mut String) -> Result<
     let mut written = Bytes::from_slice(alloc, &[9])?;
     if request.fits() {
         write_request(&request, &mut written)?;
+        let short = written.as_slice().get(1..).unwrap_or(&[]);
+        let mut room = Vec::with_capacity(alloc, short.len())?;
+        write_request_within(&request, &mut room)?;
+        show_room(short, room.as_slice(), room.capacity(), into)?;
     }
     show_short(&written, bytes, into)
 }
@@ -144,6 +164,10 @@ fn answer_of_response(alloc: Global, bytes: &Bytes, into: &mut String) -> Result
     let mut written = Bytes::from_slice(alloc, &[9])?;
     if response.fits() {
         write_response(&response, &mut written)?;
+        let short = written.as_slice().get(1..).unwrap_or(&[]);
+        let mut room = Vec::with_capacity(alloc, short.len())?;
+        write_response_within(&response, &mut room)?;
+        show_room(short, room.as_slice(), room.capacity(), into)?;
     }
     show_short(&written, bytes, into)
 }
@@ -164,10 +188,31 @@ fn name_of_response(alloc: Global, bytes: &Bytes, into: &mut String) -> Result<(
     Ok(())
 }
 
+/// The bytes of the RECORD of a row, written behind a 9.
+fn row(alloc: Global, line: &str, into: &mut String) -> Result<(), Stop> {
+    let Value::List(values) = value_of(alloc, line)? else {
+        return Err(Stop::Unreadable("a list"));
+    };
+    let mut written = Bytes::from_slice(alloc, &[9])?;
+    if values_fit(&values) {
+        write_row(&values, &mut written)?;
+        let short = written.as_slice().get(1..).unwrap_or(&[]);
+        show_bytes(short, into)?;
+        let mut room = Vec::with_capacity(alloc, short.len())?;
+        write_row_within(&values, &mut room)?;
+        show_room(short, room.as_slice(), room.capacity(), into)?;
+    }
+    Ok(())
+}
+
 /// What comes of a line.
 pub(crate) fn answer(alloc: Global, section: &str, line: &str) -> Result<String, Stop> {
-    let bytes = bytes_of(alloc, line)?;
     let mut into = String::new(alloc);
+    if section == "rows" {
+        row(alloc, line, &mut into)?;
+        return Ok(into);
+    }
+    let bytes = bytes_of(alloc, line)?;
     match section {
         "requests" => answer_of_request(alloc, &bytes, &mut into)?,
         "responses" => answer_of_response(alloc, &bytes, &mut into)?,

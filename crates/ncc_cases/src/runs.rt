@@ -1,92 +1,33 @@
 //! Runs of steps over a store.
 //!
 //! - `runs`: a step in each line. Comes: its rows, or `fault:` and why. A run with a fault changes nothing, and no step behind the fault
-//!   is run. A last line `store` shows the store behind the run; without it the run must leave the store as it was.
+//!   is run. A last line `store` shows the store behind the run, and a last line `delta` what it changed; without such a line the run must
+//!   leave the store as it was.
+//! - `runs that go on`: the same, but the steps that are given are one run, and the steps of the case go on from what it changed.
+//! - `rows that keep`: rows, and behind `*` how often they come. Comes: `yes` where they keep the limits of one step's rows, else `no`.
 //!
-//! Given: `parameters {..}`, which every step has; `next id N` for the least id of a new node; and steps that make the store, in their
-//! order, each in a run of its own, as often as a number and `*` in front say.
+//! Given: see `given.rt`.
 
-use crate::notation::dict_of;
+ghost use Rattle.ncc_store.specs.Delta.{IsOver};
+
+use crate::given::{empty_store, given_steps, params_of, push_step, store_of};
+use crate::notation::row_lists_of;
 use crate::page::{Case, Line};
-use crate::show::{show_rows, show_store};
+use crate::show::{show_delta, show_rows, show_store};
 use crate::stop::Stop;
-use ncc_cypher::ParseError;
-use ncc_pack::{Dict, Sequence, copy_dict};
-use ncc_store::{Overlay, RowLists, RunError, Step, Steps, Store, copy_steps};
+use ncc_pack::{Dict, Sequence};
+use ncc_store::{Overlay, Ran, RowLists, Rows, RunError, Steps, Store, rows_keep};
 use std::alloc::Global;
 
-/// The greatest number that `next id` takes.
-const LAST_NEXT: i64 = 4_611_686_018_427_387_904;
-
-/// Adds the step of a source, with these parameters.
-pub(crate) fn push_step(
-    alloc: Global,
-    source: &str,
-    params: &Dict,
-    steps: &mut Steps,
-) -> Result<(), Stop> {
-    let params = copy_dict(params)?;
-    if !ncc_pack::dict_fits(&params) {
-        return Err(Stop::Unreadable("parameters that fit"));
-    }
-    match Step::of(alloc, source, params) {
-        Ok(step) => steps.push(step)?,
-        Err(ParseError::Memory) => return Err(Stop::Memory),
-        Err(_) => return Err(Stop::Unreadable("a statement")),
-    }
-    Ok(())
-}
-
-/// The parameters that are given, or none.
-pub(crate) fn params_of(alloc: Global, given: &[&str]) -> Result<Dict, Stop> {
-    for what in given {
-        if let Some(params) = what.strip_prefix("parameters ") {
-            return dict_of(alloc, params);
-        }
-    }
-    Ok(Sequence::new(alloc))
-}
-
-/// A store without nodes, with the next id that is given, or with the first.
-fn empty_store(alloc: Global, given: &[&str]) -> Result<Store, Stop> {
-    for what in given {
-        if let Some(id) = what.strip_prefix("next id ") {
-            let next = id.parse::<i64>()?;
-            if next < 0 || next > LAST_NEXT {
-                return Err(Stop::Unreadable("an id"));
-            }
-            return Ok(Store::with_next(alloc, next)?);
-        }
-    }
-    Ok(Store::new(alloc)?)
-}
-
-/// Runs a step in a run of its own, so often.
-fn run_often(alloc: Global, store: &mut Store, steps: &Steps, times: u32) -> Result<(), Stop> {
-    for _ in 0..times {
-        match Overlay::run(alloc, store, steps) {
-            Ok(ran) => store.put_all(&ran.delta)?,
-            Err(RunError::Fault(_)) => return Err(Stop::Unreadable("a store")),
-            Err(RunError::Memory) => return Err(Stop::Memory),
-        }
-    }
-    Ok(())
-}
-
-/// The store that is given.
-pub(crate) fn store_of(alloc: Global, given: &[&str]) -> Result<Store, Stop> {
-    let params = params_of(alloc, given)?;
-    let mut store = empty_store(alloc, given)?;
-    for what in given {
-        if what.starts_with("parameters ") || what.starts_with("next id ") {
-            continue;
-        }
-        let (times, source) = what.split_once(" * ").unwrap_or(("1", what));
-        let mut steps = Sequence::new(alloc);
-        push_step(alloc, source, &params, &mut steps)?;
-        run_often(alloc, &mut store, &steps, times.parse::<u32>()?)?;
-    }
-    Ok(store)
+/// What came of steps over a store.
+#[derive(Drop)]
+struct Outcome {
+    /// The rows of each step.
+    answers: Vec<String>,
+    /// What was changed.
+    delta: String,
+    /// The nodes behind the run.
+    behind: String,
 }
 
 /// Appends the rows of each step, as an answer of its own.
@@ -99,108 +40,225 @@ fn push_rows(alloc: Global, lists: &RowLists, answers: &mut Vec<String>) -> Resu
     Ok(())
 }
 
-/// Runs the first so many steps. Answers what came of each of them, or the fault.
-fn run_front(
-    alloc: Global,
-    store: &mut Store,
-    steps: &Steps,
-) -> Result<Result<Vec<String>, String>, Stop> {
-    let copy = copy_steps(steps)?;
-    match Overlay::run(alloc, store, &copy) {
-        Ok(ran) => {
-            let ran = ran.copy()?;
-            let mut answers = Vec::new(alloc);
-            push_rows(alloc, &ran.rows, &mut answers)?;
-            store.put_all(&ran.delta.copy()?)?;
-            Ok(Ok(answers))
-        }
-        Err(RunError::Fault(fault)) => Ok(Err(format!(in alloc; "fault: {fault}")?)),
-        Err(RunError::Memory) => Err(Stop::Memory),
+/// What came of a run over a store.
+fn outcome_over(alloc: Global, store: &Store, ran: &Ran) -> Result<Outcome, Stop>
+    requires { IsOver store.now ran.now.delta }
+{
+    let copy = ran.copy()?;
+    let mut answers = Vec::new(alloc);
+    push_rows(alloc, &copy.rows, &mut answers)?;
+    let mut delta = String::new(alloc);
+    show_delta(&copy.delta, &mut delta)?;
+    let mut after = store.copy()?;
+    after.put_all(&ran.delta)?;
+    let mut behind = String::new(alloc);
+    show_store(&after, &mut behind)?;
+    Ok(Outcome {
+        answers,
+        delta,
+        behind,
+    })
+}
+
+/// A fault as text.
+fn fault_text(alloc: Global, error: RunError) -> Result<String, Stop> {
+    match error {
+        RunError::Fault(fault) => Ok(format!(in alloc; "fault: {fault}")?),
+        RunError::Memory => Err(Stop::Memory),
     }
 }
 
-/// The steps of a case, of which the last line may be `store`.
-fn steps_of(alloc: Global, lines: &[Line<'_>], params: &Dict) -> Result<Vec<Steps>, Stop> {
+/// Runs steps. Answers what came of them, or the fault.
+fn run(alloc: Global, store: &Store, steps: &Steps) -> Result<Result<Outcome, String>, Stop> {
+    match Overlay::run(alloc, store, steps) {
+        Ok(ran) => Ok(Ok(outcome_over(alloc, store, &ran)?)),
+        Err(error) => Ok(Err(fault_text(alloc, error)?)),
+    }
+}
+
+/// Runs steps that go on from what others changed.
+fn go_on(
+    alloc: Global,
+    store: &Store,
+    earlier: &Steps,
+    steps: &Steps,
+) -> Result<Result<Outcome, String>, Stop> {
+    let before = match Overlay::run(alloc, store, earlier) {
+        Ok(ran) => ran,
+        Err(error) => return Ok(Err(fault_text(alloc, error)?)),
+    };
+    let Ran { delta, .. } = before;
+    match Overlay::go_on(alloc, store, delta, steps) {
+        Ok(ran) => Ok(Ok(outcome_over(alloc, store, &ran)?)),
+        Err(error) => Ok(Err(fault_text(alloc, error)?)),
+    }
+}
+
+/// Says whether a line shows what stands behind the run.
+fn is_tail(line: &Line<'_>) -> bool {
+    line.input == "store" || line.input == "delta"
+}
+
+/// The steps of a case: the first, the first two, and so on.
+fn fronts_of(alloc: Global, lines: &[Line<'_>], params: &Dict) -> Result<Vec<Steps>, Stop> {
     let mut fronts = Vec::new(alloc);
     let mut steps = Sequence::new(alloc);
     for line in lines {
-        if line.input != "store" {
+        if !is_tail(line) {
             push_step(alloc, line.input, params, &mut steps)?;
-            fronts.push(copy_steps(&steps)?)?;
+            fronts.push(steps.copy()?)?;
         }
     }
     Ok(fronts)
 }
 
-/// What comes of the lines of a case.
-pub(crate) fn answers(alloc: Global, case: &Case<'_>) -> Result<Vec<String>, Stop> {
-    if case.section != "runs" {
-        return Err(Stop::Unreadable("a section of this folder"));
+/// What a case runs over.
+#[derive(Drop)]
+struct Ground {
+    store: Store,
+    /// The steps that are run before, where the case goes on.
+    earlier: Option<Steps>,
+}
+
+fn ground_of(alloc: Global, case: &Case<'_>) -> Result<Ground, Stop> {
+    let given = case.given.as_slice();
+    if case.section == "runs that go on" {
+        return Ok(Ground {
+            store: empty_store(alloc, given)?,
+            earlier: Some(given_steps(alloc, given)?),
+        });
     }
-    let params = params_of(alloc, case.given.as_slice())?;
-    let fronts = steps_of(alloc, case.lines.as_slice(), &params)?;
-    let store = store_of(alloc, case.given.as_slice())?;
-    let mut answers = Vec::new(alloc);
-    let mut behind = store.copy()?;
-    for front in fronts.as_slice() {
-        behind = store.copy()?;
-        match run_front(alloc, &mut behind, front)? {
-            Ok(rows) => answers = rows,
+    Ok(Ground {
+        store: store_of(alloc, given)?,
+        earlier: None,
+    })
+}
+
+impl Ground {
+    fn run(&self, alloc: Global, steps: &Steps) -> Result<Result<Outcome, String>, Stop> {
+        match &self.earlier {
+            None => run(alloc, &self.store, steps),
+            Some(earlier) => go_on(alloc, &self.store, earlier, steps),
+        }
+    }
+}
+
+/// What came of a run that changed nothing.
+fn unchanged(alloc: Global, ground: &Ground, answers: Vec<String>) -> Result<Outcome, Stop> {
+    let mut behind = String::new(alloc);
+    show_store(&ground.store, &mut behind)?;
+    Ok(Outcome {
+        answers,
+        delta: String::from_str(alloc, "none")?,
+        behind,
+    })
+}
+
+/// The fault of a run's front, and that of the whole run where it is another.
+fn with_whole(
+    alloc: Global,
+    ground: &Ground,
+    all: &[Steps],
+    fault: String,
+) -> Result<String, Stop> {
+    let Some(whole) = all.last() else {
+        return Ok(fault);
+    };
+    match ground.run(alloc, whole)? {
+        Err(other) if other.as_str() == fault.as_str() => Ok(fault),
+        Err(other) => Ok(format!(in alloc; "{fault}, and of all steps {other}")?),
+        Ok(_) => Ok(format!(in alloc; "{fault}, and of all steps none")?),
+    }
+}
+
+/// What came of a case: the answers of its steps up to a fault, and what stands behind them.
+fn outcome_of(alloc: Global, ground: &Ground, fronts: &[Steps]) -> Result<Outcome, Stop> {
+    let mut told = unchanged(alloc, ground, Vec::new(alloc))?;
+    for front in fronts {
+        match ground.run(alloc, front)? {
+            Ok(found) => told = found,
             Err(fault) => {
-                answers.push(fault)?;
-                break;
+                let Outcome { mut answers, .. } = told;
+                answers.push(with_whole(alloc, ground, fronts, fault)?)?;
+                return unchanged(alloc, ground, answers);
             }
         }
     }
-    if let Some(all) = fronts.last() {
-        end_as_all(alloc, &store, all, &mut answers)?;
+    Ok(told)
+}
+
+/// The answers of a case's lines. A step behind a fault has none. Where no line shows what stands behind the run, the last answer says
+/// whether that is another store than before.
+fn all_answers(
+    alloc: Global,
+    case: &Case<'_>,
+    before: &str,
+    told: Outcome,
+) -> Result<Vec<String>, Stop> {
+    let Outcome {
+        mut answers,
+        delta,
+        behind,
+    } = told;
+    let tails = case
+        .lines
+        .as_slice()
+        .iter()
+        .filter(|line| is_tail(line))
+        .count();
+    if tails == 0 && behind.as_str() != before {
+        let last = answers.pop().unwrap_or(String::new(alloc));
+        answers.push(format!(in alloc; "{last} and the store is {behind}")?)?;
     }
-    end_with_store(alloc, case, &store, &behind, &mut answers)?;
+    for _ in answers.len().saturating_add(tails)..case.lines.len() {
+        answers.push(String::new(alloc))?;
+    }
+    for line in case.lines.as_slice() {
+        if line.input == "store" {
+            answers.push(behind.clone()?)?;
+        } else if line.input == "delta" {
+            answers.push(delta.clone()?)?;
+        }
+    }
     Ok(answers)
 }
 
-/// Says behind the last answer where the run of all steps at once meets another fault.
-fn end_as_all(
-    alloc: Global,
-    store: &Store,
-    all: &Steps,
-    answers: &mut Vec<String>,
-) -> Result<(), Stop> {
-    if let Err(fault) = run_front(alloc, &mut store.copy()?, all)? {
-        let last = answers.pop().unwrap_or(String::new(alloc));
-        if last.as_str() == fault.as_str() {
-            answers.push(last)?;
-        } else {
-            answers.push(format!(in alloc; "{last}, and of all steps {fault}")?)?;
+/// The rows of a line, as often as a number behind `*` says.
+fn rows_often(alloc: Global, line: &str) -> Result<Rows, Stop> {
+    let (rows, times) = line.rsplit_once(" * ").unwrap_or((line, "1"));
+    let lists = row_lists_of(alloc, rows)?;
+    let mut all = Sequence::new(alloc);
+    for _ in 0..times.parse::<u32>()? {
+        for rows in lists.as_slice() {
+            for row in rows.as_slice() {
+                all.push(row.copy()?)?;
+            }
         }
     }
-    Ok(())
+    Ok(all)
 }
 
-/// Appends what a line `store` shows. Without such a line it says behind the last answer where the store is another.
-fn end_with_store(
-    alloc: Global,
-    case: &Case<'_>,
-    before: &Store,
-    behind: &Store,
-    answers: &mut Vec<String>,
-) -> Result<(), Stop> {
-    let mut first = String::new(alloc);
-    show_store(before, &mut first)?;
-    let mut last = String::new(alloc);
-    show_store(behind, &mut last)?;
-    let told = match case.lines.as_slice() {
-        [.., line] => line.input == "store",
-        [] => false,
-    };
-    if told {
-        for _ in answers.len().saturating_add(1)..case.lines.len() {
-            answers.push(String::new(alloc))?;
-        }
-        answers.push(last)?;
-    } else if first.as_str() != last.as_str() {
-        let shown = answers.pop().unwrap_or(String::new(alloc));
-        answers.push(format!(in alloc; "{shown} and the store is {last}")?)?;
+/// Whether the rows of each line keep the limits.
+fn rows_kept(alloc: Global, case: &Case<'_>) -> Result<Vec<String>, Stop> {
+    let mut answers = Vec::new(alloc);
+    for line in case.lines.as_slice() {
+        let kept = rows_keep(&rows_often(alloc, line.input)?);
+        answers.push(String::from_str(alloc, if kept { "yes" } else { "no" })?)?;
     }
-    Ok(())
+    Ok(answers)
+}
+
+/// What comes of the lines of a case.
+pub(crate) fn answers(alloc: Global, case: &Case<'_>) -> Result<Vec<String>, Stop> {
+    match case.section {
+        "rows that keep" => return rows_kept(alloc, case),
+        "runs" | "runs that go on" => {}
+        _ => return Err(Stop::Unreadable("a section of this folder")),
+    }
+    let params = params_of(alloc, case.given.as_slice())?;
+    let fronts = fronts_of(alloc, case.lines.as_slice(), &params)?;
+    let ground = ground_of(alloc, case)?;
+    let before = unchanged(alloc, &ground, Vec::new(alloc))?;
+    let told = outcome_of(alloc, &ground, fronts.as_slice())?;
+    all_answers(alloc, case, before.behind.as_str(), told)
 }

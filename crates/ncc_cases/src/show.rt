@@ -4,7 +4,7 @@ use crate::escape::show_marked;
 use crate::stop::Stop;
 use crate::words::show_bytes;
 use ncc_pack::{Dict, NodeValue, Value, Values};
-use ncc_store::{Rows, Store};
+use ncc_store::{Delta, Rows, Store, StoredNode};
 use std::alloc::Global;
 
 /// Equal rows that come more often than this, one behind the other, are shown once, with their number.
@@ -149,25 +149,38 @@ pub(crate) fn show_rows(alloc: Global, rows: &Rows, into: &mut String) -> Result
     show_row(last.as_str(), times, front, into)
 }
 
-/// Appends the node of a store that has an id, if there is one.
-fn show_stored(store: &Store, id: i64, front: &str, into: &mut String) -> Result<bool, Stop> {
-    match store.node(id) {
-        None => Ok(false),
-        Some(node) => {
-            write!(into, "{front}({id}:")?;
-            show_name(node.label.as_str(), into)?;
-            if !node.props.is_empty() {
-                into.push_str(" ")?;
-                show_dict(&node.props, into)?;
-            }
-            into.push_str(")")?;
-            Ok(true)
-        }
+/// Appends a node of a store.
+fn show_stored(node: &StoredNode, into: &mut String) -> Result<(), Stop> {
+    let id = node.id;
+    write!(into, "({id}:")?;
+    show_name(node.label.as_str(), into)?;
+    if !node.props.is_empty() {
+        into.push_str(" ")?;
+        show_dict(&node.props, into)?;
     }
+    into.push_str(")")?;
+    Ok(())
 }
 
-/// Appends the nodes of a store, or `no nodes`, and where its next id is not the one behind the last of them, this id. Of many
-/// nodes it shows the first.
+/// Appends what a run changed: the next id, the nodes that are put, and the ids of those that are gone.
+pub(crate) fn show_delta(delta: &Delta, into: &mut String) -> Result<(), Stop> {
+    let next = delta.next;
+    write!(into, "next {next}")?;
+    let mut front = ", put ";
+    for node in delta.put.as_slice() {
+        into.push_str(front)?;
+        show_stored(node, into)?;
+        front = " ";
+    }
+    let mut front = ", gone ";
+    for id in delta.gone.as_slice() {
+        write!(into, "{front}{id}")?;
+        front = " ";
+    }
+    Ok(())
+}
+
+/// Appends the nodes of a store, or `no nodes`. Of many nodes it shows the first, and how many there are.
 pub(crate) fn show_store(store: &Store, into: &mut String) -> Result<(), Stop> {
     let count = store.len();
     let first = if store.next() > 1000 && count < 3 {
@@ -181,7 +194,9 @@ pub(crate) fn show_store(store: &Store, into: &mut String) -> Result<(), Stop> {
         if shown >= MANY_NODES || shown >= count {
             break;
         }
-        if show_stored(store, id.saturating_add(first), front, into)? {
+        if let Some(node) = store.node(id.saturating_add(first)) {
+            into.push_str(front)?;
+            show_stored(node, into)?;
             shown = shown.saturating_add(1);
             front = " ";
         }

@@ -3,8 +3,8 @@
 use crate::page::Case;
 use crate::stop::Stop;
 use crate::{
-    bookmarks, chunks, entries, errors, handshakes, messages, routes, runs, statements, texts,
-    values, waits,
+    bookmarks, chunks, entries, errors, handshakes, items, messages, routes, runs, statements,
+    texts, values, waits,
 };
 use std::alloc::Global;
 
@@ -35,6 +35,7 @@ pub(crate) fn answers_of(
     match subject {
         "runs" => runs::answers(alloc, case),
         "entries" => entries::answers(alloc, case),
+        "items" => items::answers(alloc, case),
         _ => {
             let mut answers = Vec::new(alloc);
             for line in case.lines.as_slice() {

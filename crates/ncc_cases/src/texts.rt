@@ -3,6 +3,7 @@
 //! - `texts`: pieces in quotes. Comes: the text that they make one behind the other, and its length in bytes.
 //! - `bytes`: pieces with `/` between two. Comes: the bytes that they make one behind the other.
 //! - `words`: words in quotes. Comes: the list of them, copied, with a bar behind each.
+//! - `rooms`: a size. Comes: the room of a list that is made ahead of so many items, and then as many items as are put.
 //! - `parts`: a value. Comes: the bytes that a message writes of it: of a text, of a list or of a dictionary.
 
 use crate::escape::show_marked;
@@ -10,7 +11,7 @@ use crate::notation::value_of;
 use crate::stop::Stop;
 use crate::words::{Word, put_word, show_bytes, words_of};
 use ncc_pack::{
-    Bytes, Text, Value, Words, dict_fits, dict_len, encode_dict, encode_text, encode_values,
+    Bytes, Roomy, Text, Value, Words, dict_fits, dict_len, encode_dict, encode_text, encode_values,
     text_fits, text_len, values_fit, values_len,
 };
 use std::alloc::Global;
@@ -30,7 +31,7 @@ fn texts(alloc: Global, line: &str, into: &mut String) -> Result<(), Stop> {
     let copy = text.copy()?;
     show_marked(copy.as_str(), '"', into)?;
     write!(into, " {}", copy.len())?;
-    into.push_str(if copy.as_str() == text.as_str() {
+    into.push_str(if copy.equals(&text) {
         ""
     } else {
         ", and another copy"
@@ -57,7 +58,8 @@ fn bytes(alloc: Global, line: &str, into: &mut String) -> Result<(), Stop> {
     }
     let copy = bytes.copy()?;
     show_bytes(copy.as_slice(), into)?;
-    let same = copy.as_slice() == bytes.as_slice() && copy.len() == bytes.len();
+    let moved = Bytes::from_vec(bytes.into_vec());
+    let same = copy.equals(&moved) && copy.len() == moved.len();
     into.push_str(if same { "" } else { ", and another copy" })?;
     into.push_str(if copy.is_empty() { "no bytes" } else { "" })?;
     Ok(())
@@ -115,6 +117,28 @@ fn parts(alloc: Global, line: &str, into: &mut String) -> Result<(), Stop> {
     Ok(())
 }
 
+/// Puts four numbers into a list that is made ahead, and takes one away.
+fn rooms(alloc: Global, line: &str, into: &mut String) -> Result<(), Stop> {
+    let mut list = Roomy::ahead(alloc, line.parse::<usize>()?)?;
+    write!(into, "room {}", list.room())?;
+    list.reserve(2)?;
+    if list.room() >= 2 {
+        list.put(1u64);
+        list.put(2u64);
+    }
+    list.push(3)?;
+    list.push(4)?;
+    list.truncate(3);
+    let same = Roomy::from_sequence(list.into_sequence());
+    write!(into, ", then {:?}", same.as_slice())?;
+    into.push_str(if same.len() == 3 && !same.is_empty() {
+        ""
+    } else {
+        ", and another length"
+    })?;
+    Ok(())
+}
+
 /// What comes of a line.
 pub(crate) fn answer(alloc: Global, section: &str, line: &str) -> Result<String, Stop> {
     let mut into = String::new(alloc);
@@ -123,6 +147,7 @@ pub(crate) fn answer(alloc: Global, section: &str, line: &str) -> Result<String,
         "bytes" => bytes(alloc, line, &mut into)?,
         "words" => words(alloc, line, &mut into)?,
         "parts" => parts(alloc, line, &mut into)?,
+        "rooms" => rooms(alloc, line, &mut into)?,
         _ => return Err(Stop::Unreadable("a section of this folder")),
     }
     Ok(into)

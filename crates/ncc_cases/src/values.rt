@@ -8,15 +8,18 @@
 //!   and of a node's properties. `labels`: the labels of a node, as a list. `letters`: the length of a text, of bytes, of a key and of
 //!   a label. Comes: `fits` or `no`.
 //! - `no markers`: bytes of which none is a marker, by itself, in a list or as a property. Comes: `refused`.
+//! - `equal values`: two values with ` == ` or ` != ` between. Nothing comes where it is so.
+//! - `values at keys`: a dictionary and a key. Comes: the value, or `none`.
+//! - `writing within`: a value, ` within ` and a room in bytes. Comes: the bytes, written into as much room.
 //! - `fronts`: the bytes of a value. Comes: how many fronts of them are short.
 
-use crate::notation::value_of;
+use crate::notation::{value_of, values_of};
 use crate::show::show_value;
 use crate::stop::Stop;
 use crate::words::{Word, bytes_and_rest, bytes_of, show_bytes, words_of};
 use ncc_pack::{
     Bytes, Dict, NodeValue, PackError, Sequence, Text, Value, Values, decode, decode_at, encode,
-    short_len,
+    encode_within, short_len,
 };
 use std::alloc::Global;
 
@@ -310,6 +313,67 @@ fn fronts(alloc: Global, line: &str, into: &mut String) -> Result<(), Stop> {
     Ok(())
 }
 
+/// Says whether two values are equal, also as their copies and the other way round.
+fn are_equal(alloc: Global, one: &str, other: &str) -> Result<bool, Stop> {
+    let one = value_of(alloc, one)?.copy()?;
+    let other = value_of(alloc, other)?;
+    let equal = one.equals(&other);
+    if equal != other.equals(&one) {
+        return Err(Stop::Unreadable("an equality that holds both ways"));
+    }
+    Ok(equal)
+}
+
+fn equal_values(alloc: Global, line: &str, into: &mut String) -> Result<(), Stop> {
+    let (equal, wanted) = match line.split_once(" == ") {
+        Some((one, other)) => (are_equal(alloc, one, other)?, true),
+        None => match line.split_once(" != ") {
+            Some((one, other)) => (are_equal(alloc, one, other)?, false),
+            None => return Err(Stop::Unreadable("== or !=")),
+        },
+    };
+    into.push_str(if equal == wanted { "" } else { "otherwise" })?;
+    Ok(())
+}
+
+/// Appends the value that a dictionary has at a key.
+fn show_at(pairs: &Dict, key: &str, into: &mut String) -> Result<(), Stop> {
+    match pairs.get(key) {
+        Some(value) => show_value(value, into),
+        None => {
+            into.push_str("none")?;
+            Ok(())
+        }
+    }
+}
+
+fn value_at(alloc: Global, line: &str, into: &mut String) -> Result<(), Stop> {
+    match values_of(alloc, line)?.as_slice() {
+        [Value::Dict(pairs), Value::Text(key)] => show_at(pairs, key.as_str(), into),
+        _ => Err(Stop::Unreadable("a dictionary and a key")),
+    }
+}
+
+fn within(alloc: Global, line: &str, into: &mut String) -> Result<(), Stop> {
+    let (value, room) = line
+        .split_once(" within ")
+        .ok_or(Stop::Unreadable("a room"))?;
+    let value = value_of(alloc, value)?;
+    let mut bytes = Vec::with_capacity(alloc, room.trim_ascii().parse::<usize>()?)?;
+    let capacity = bytes.capacity();
+    if !value.fits() {
+        return Err(Stop::Unreadable("a value that fits"));
+    }
+    encode_within(&value, &mut bytes)?;
+    show_bytes(bytes.as_slice(), into)?;
+    into.push_str(if bytes.capacity() == capacity {
+        ""
+    } else {
+        ", in more room"
+    })?;
+    Ok(())
+}
+
 /// What comes of a line.
 pub(crate) fn answer(alloc: Global, section: &str, line: &str) -> Result<String, Stop> {
     let mut into = String::new(alloc);
@@ -324,6 +388,9 @@ pub(crate) fn answer(alloc: Global, section: &str, line: &str) -> Result<String,
         "letters" => fit_by_size(alloc, line, &mut into)?,
         "no markers" => no_markers(alloc, line, &mut into)?,
         "fronts" => fronts(alloc, line, &mut into)?,
+        "equal values" => equal_values(alloc, line, &mut into)?,
+        "values at keys" => value_at(alloc, line, &mut into)?,
+        "writing within" => within(alloc, line, &mut into)?,
         _ => return Err(Stop::Unreadable("a section of this folder")),
     }
     Ok(into)
