@@ -9,8 +9,6 @@
 #![tactic(auto)]
 
 mod steps;
-#[cfg(test)]
-mod tests;
 
 ghost use Rattle.std.specs.Prelude.{◌<◌, IsTrue};
 ghost use Rattle.ncc_pack.specs.Fits.{fits};
