@@ -2,7 +2,7 @@
 
 ghost use Rattle.std.specs.Prelude.{◌≡◌, ◌++◌, ◌∷◌, [], length, IfOk, OnOk, OnErr, IsTrue, ◌↔◌, Option};
 
-use ncc_pack::{Memory, Text, Values, copy_values};
+use ncc_pack::{Memory, Text, Values};
 use std::alloc::Global;
 use std::marker::Model;
 
@@ -421,7 +421,7 @@ impl Statement {
         let name = copy_text(&self.name)?;
         let change = self.change.copy()?;
         let tail = self.tail.copy()?;
-        let columns = copy_values(&self.columns)?;
+        let columns = self.columns.copy()?;
         Ok(Statement {
             head,
             name,
