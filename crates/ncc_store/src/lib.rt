@@ -12,8 +12,6 @@ mod scalar;
 mod step;
 mod store;
 mod sum;
-#[cfg(test)]
-mod tests;
 
 pub use fault::{RunError, RunFault};
 pub use node::{Ids, NodeList, StoredNode, copy_ids, copy_nodes};

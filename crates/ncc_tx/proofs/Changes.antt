@@ -55,7 +55,7 @@ one old new (Some c) (Some d) a b = ap Some (same_change old new c d a b)
 pub leads : (old new : Saved) (c : ChangeSet) → IsChange old new c → part_after old c ≡ new
 leads old new c is =
     let log : take c.keep old.log ++ c.items ≡ new.log = ap (λ (l : List Item). take c.keep old.log ++ l) is.items
-        ∙ ap (λ (l : List Item). l ++ drop c.keep new.log) is.keep.same ∙ take-append-drop c.keep new.log in
+    ∙ ap (λ (l : List Item). l ++ drop c.keep new.log) is.keep.same ∙ take-append-drop c.keep new.log in
     λ i. record { term = is.term i; vote = is.vote i; log = log i }
 
 pub leads_after : (old : Saved) (c : ChangeSet) → c.keep ≤ length old.log → Parted (drop c.keep old.log) c.items →
@@ -119,7 +119,7 @@ pub kept : (old : Saved) (c : ChangeSet) → MayKeep old → MayFollow old c →
     MayKeep (part_after old c)
 kept old c k f few =
     let front : NeverFalls 0 c.term (take c.keep old.log) =
-        falls_front 0 c.term c.keep old.log (falls_under 0 old.term c.term old.log f.term k.terms) in
+    falls_front 0 c.term c.keep old.log (falls_under 0 old.term c.term old.log f.term k.terms) in
     let last : last_of 0 (take c.keep old.log) ≡ term_at old.log c.keep = last_is 0 old.log c.keep f.keep ∙ at_is old.log c.keep in
     record {
       term = f.stands.term;

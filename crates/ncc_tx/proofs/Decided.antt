@@ -57,7 +57,7 @@ pair_of p = (p.0, p.1.0)
 pair_decided : (p : List ℕ × Known) (q : List ℕ × Value) → Decides (pair_equals (pair_of p) q) (pair_of p ≡ q)
 pair_decided p q =
     Decides-like (bytes_eq p.0 q.0 && equal p.1.0 q.1) (λ e. ap (λ k. (k, p.1.0)) e.0
-        ∙ ap (λ x. (q.0, x)) e.1) (λ e. (ap (λ r. r.0) e, ap (λ r. r.1) e))
+    ∙ ap (λ x. (q.0, x)) e.1) (λ e. (ap (λ r. r.0) e, ap (λ r. r.1) e))
     (Decides-and (bytes_eq p.0 q.0) (equal p.1.0 q.1) (bytes_eq-Decides p.0 q.0) (p.1.1 q.1))
 
 items_decided : (ks : List Known) (ys : List Value) → Decides (equal_values (map (λ e. e.0) ks) ys) (map (λ e. e.0) ks ≡ ys)
@@ -87,7 +87,7 @@ value_decided k y =
     let l : Layer = layer k in
     Decides-at (equal (roll-Value l) y) (layers_agree (tests_of l) (out-Value y)) (equal_by (roll-Value l) l refl y)
     (Decides-like (layers_agree (tests_of l) (out-Value y)) (λ e. ap roll-Value e ∙ roll-out-Value y) (λ e. sym (out-roll-Value l)
-        ∙ ap out-Value e) (layer_decided k (out-Value y)))
+    ∙ ap out-Value e) (layer_decided k (out-Value y)))
 
 abbrev node_layer : NodeValue-F Known KnownNode → NodeValue-F Value NodeValue
 node_layer k = map-NodeValue Known KnownNode Value NodeValue (λ e. e.0) (λ e. e.0) k
@@ -95,9 +95,12 @@ node_layer k = map-NodeValue Known KnownNode Value NodeValue (λ e. e.0) (λ e. 
 same_node : (n m : NodeValue) → ((n.id ≡ m.id) × (n.labels ≡ m.labels)) × (n.props ≡ m.props) → n ≡ m
 same_node n m e =
     let with_id : n ≡ record { id = m.id; labels = n.labels; props = n.props } =
-        ap (λ (i : ℤ). roll-NodeValue (record { id = i; labels = n.labels; props = n.props })) e.0.0 in
-    let with_labels : record { id = m.id; labels = n.labels; props = n.props } ≡ record { id = m.id; labels = m.labels;
-        props = n.props } = ap (λ (xs : List Value). roll-NodeValue (record { id = m.id; labels = xs; props = n.props })) e.0.1 in
+    ap (λ (i : ℤ). roll-NodeValue (record { id = i; labels = n.labels; props = n.props })) e.0.0 in
+    let with_labels : record { id = m.id; labels = n.labels; props = n.props } ≡ record {
+      id = m.id;
+      labels = m.labels;
+      props = n.props;
+    } = ap (λ (xs : List Value). roll-NodeValue (record { id = m.id; labels = xs; props = n.props })) e.0.1 in
     with_id ∙ with_labels ∙ ap (λ (ps : List (List ℕ × Value)). roll-NodeValue (record { id = m.id; labels = m.labels; props = ps })) e.1
 
 node_decided : (k : NodeValue-F Known KnownNode) → DecidedNode (roll-NodeValue (node_layer k))
@@ -107,11 +110,11 @@ node_decided k m =
     let props : Decides (all_agree pair_equals n.props m.props) (n.props ≡ m.props) = pairs_decided k.props m.props in
     let ids : Decides (int_eq n.id m.id) (n.id ≡ m.id) = Decides-int_eq n.id m.id in
     Decides-at (equal_nodes n m) (int_eq n.id m.id && equal_values n.labels m.labels && all_agree pair_equals n.props m.props)
-        (nodes_by n m)
+    (nodes_by n m)
     (Decides-like (int_eq n.id m.id && equal_values n.labels m.labels && all_agree pair_equals n.props m.props)
     (same_node n m) (λ e. ((ap (λ (a : NodeValue). a.id) e, ap (λ (a : NodeValue). a.labels) e), ap (λ (a : NodeValue). a.props) e))
     (Decides-and (int_eq n.id m.id && equal_values n.labels m.labels) (all_agree pair_equals n.props m.props)
-        (Decides-and (int_eq n.id m.id) (equal_values n.labels m.labels) ids labels) props))
+    (Decides-and (int_eq n.id m.id) (equal_values n.labels m.labels) ids labels) props))
 
 pub equal_decided : (x : Value) → Decided x
 equal_decided = ind-Value Decided DecidedNode

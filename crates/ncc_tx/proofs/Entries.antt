@@ -65,9 +65,10 @@ pub tx_same : (cs ds : List Call) (ts us : List (List (List Value))) → shape_v
 tx_same cs ds ts us e =
     let items = list_same (calls_value cs ∷ told_value ts ∷ []) (calls_value ds ∷ told_value us ∷ []) e in
     let first : calls_value cs ≡ calls_value ds = cc in
-    let second : told_value ts ≡ told_value us = cc in
-    (all_same call_value call_same cs ds (list_same (map call_value cs) (map call_value ds) first),
-        all_same rows_value rows_same ts us (list_same (map rows_value ts) (map rows_value us) second))
+    let second : told_value ts ≡ told_value us = cc in (
+      all_same call_value call_same cs ds (list_same (map call_value cs) (map call_value ds) first),
+      all_same rows_value rows_same ts us (list_same (map rows_value ts) (map rows_value us) second),
+    )
 
 -- ---- what a shape's value fits
 
@@ -98,7 +99,7 @@ params_fit deeper calls told f = λ k d lt.
     let all = (parts call_value calls 31 (omega arith) (pair_fits (calls_value calls) (told_value told) 32 (omega arith) f).0).1 in
     let one : IsTrue (fits_within (call_value (get_or calls k d)) 30) = all_at (λ c. fits_within (call_value c) 30) calls k d lt all in
     whole_by deeper (v.Dict (get_or calls k d).params) (pair_fits (v.Text (get_or calls k d).source)
-        (v.Dict (get_or calls k d).params) 30 (omega arith) one).1
+    (v.Dict (get_or calls k d).params) 30 (omega arith) one).1
 
 -- ---- a refusal by what reads a value
 
@@ -134,7 +135,7 @@ module _ (bytes : List ℕ) (value : Value) (used : ℕ) (again : Again bytes (r
   read_of : (s : Shape) → IsShape s bytes → (shape_value s ≡ value) × (length bytes ≡ used)
   read_of s is =
       let same : read_as (shape_value s) (length (short (shape_value s))) ≡ read_as value used =
-          written bytes (read_as value used) again s is in
+      written bytes (read_as value used) again s is in
       let pair = ok_is (shape_value s, length (short (shape_value s))) (value, used) same in
       (ap (λ (r : Value × ℕ). r.0) pair, ap length is.same ∙ ap (λ (r : Value × ℕ). r.1) pair)
 
@@ -211,10 +212,10 @@ one_entry x y f g same =
     let a = short_is max_depth (shape_value (shape_of x)) (shape_fits (shape_of x) f) in
     let b = short_is max_depth (shape_value (shape_of y)) (shape_fits (shape_of y) g) in
     same_entry x y (one_form max_depth (shape_value (shape_of x)) (shape_value (shape_of y)) (spelled x) (spelled y) [] [] a b
-        (ap (λ (l : List ℕ). l ++ []) same)).0
+    (ap (λ (l : List ℕ). l ++ []) same)).0
 
 pub noop_is : IsTrue (entry_allowed e.Noop)
 noop_is =
     let null : spelled e.Noop ≡ 0xC0 ∷ [] = ap short (sym v.rolls-Null)
-        ∙ fold-roll-Value (List ℕ) (List ℕ) short_step node_step Value-F.Null in
+    ∙ fold-roll-Value (List ℕ) (List ℕ) short_step node_step Value-F.Null in
     allowed_by e.Noop refl (omega (arith, ap length null))

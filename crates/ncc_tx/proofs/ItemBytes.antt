@@ -65,7 +65,7 @@ pub items_more : (items : List Item) (i : ℕ) (x : Item) → i < length items �
     items_bytes (take (i + 1) items) ≡ items_bytes (take i items) ++ item_bytes x
 items_more items i x lt is =
     ap (flat_map item_bytes) (take_more items i x lt ∙ ap (λ (y : Item). take i items ++ y ∷ []) (sym is))
-        ∙ flat_map-append item_bytes (take i items) (x ∷ [])
+    ∙ flat_map-append item_bytes (take i items) (x ∷ [])
     ∙ ap (λ (l : List ℕ). items_bytes (take i items) ++ l) (append-nil (item_bytes x))
 
 abbrev pub greatest : ℕ
@@ -76,7 +76,7 @@ pub adds_item : (items : List Item) (i sum t : ℕ) (x : Item) → i < length it
     → min (sum + t) greatest ≡ min (4 + length (items_bytes (take (i + 1) items))) greatest
 adds_item items i sum t x lt is e f =
     let more : length (items_bytes (take (i + 1) items)) ≡ length (items_bytes (take i items)) + length (item_bytes x) =
-        ap length (items_more items i x lt is) ∙ length-append (items_bytes (take i items)) (item_bytes x) in
+    ap length (items_more items i x lt is) ∙ length-append (items_bytes (take i items)) (item_bytes x) in
     grind arith
 
 pub all_added : (items : List Item) (i sum : ℕ) → length items ≤ i → sum ≡ min (4 + length (items_bytes (take i items))) greatest →
@@ -94,14 +94,14 @@ item_put old a b new size i e f g s =
     let t : List ℕ = to_be_bytes w64 i.term in
     let n : List ℕ = to_be_bytes w32 (length (spelled i.entry)) in
     let h : b ≡ (old ++ t) ++ n = f ∙ ap (λ (l : List ℕ). l ++ to_be_bytes w32 size) e
-        ∙ ap (λ (k : ℕ). (old ++ t) ++ to_be_bytes w32 k) s in
+    ∙ ap (λ (k : ℕ). (old ++ t) ++ to_be_bytes w32 k) s in
     g ∙ ap (λ (l : List ℕ). l ++ spelled i.entry) (h ∙ append_assoc old t n) ∙ append_assoc old (t ++ n) (spelled i.entry)
 
 pub one_put : (items : List Item) (i : ℕ) (x : Item) (init into new : List ℕ) → i < length items → x ≡ get_or items i x →
     into ≡ init ++ items_bytes (take i items) → new ≡ into ++ item_bytes x → new ≡ init ++ items_bytes (take (i + 1) items)
 one_put items i x init into new lt is e f =
     f ∙ ap (λ (l : List ℕ). l ++ item_bytes x) e ∙ append_assoc init (items_bytes (take i items)) (item_bytes x)
-        ∙ ap (λ (l : List ℕ). init ++ l) (sym (items_more items i x lt is))
+    ∙ ap (λ (l : List ℕ). init ++ l) (sym (items_more items i x lt is))
 
 pub all_put : (items : List Item) (i : ℕ) (init into : List ℕ) → length items ≤ i → into ≡ init ++ items_bytes (take i items) →
     into ≡ init ++ items_bytes items
@@ -112,7 +112,7 @@ pub counted_put : (old a new : List ℕ) (number : ℕ) (items : List Item) → 
 unfolding counted
 counted_put old a new number items e f s =
     f ∙ ap (λ (l : List ℕ). l ++ items_bytes items) (e ∙ ap (λ (n : ℕ). old ++ to_be_bytes w32 n) s)
-        ∙ append_assoc old (to_be_bytes w32 (length items)) (items_bytes items)
+    ∙ append_assoc old (to_be_bytes w32 (length items)) (items_bytes items)
 
 pub length_front : (items : List Item) (i : ℕ) (x : Item) → i < length items → x ≡ get_or items i x →
     length (items_bytes (take i items)) + length (item_bytes x) ≤ length (items_bytes items)
@@ -128,8 +128,12 @@ begins_on init a b x e h = (x ++ h.0, h.1 ∙ ap (λ (l : List ℕ). l ++ h.0) e
 pub full_on : (items : List Item) (i : ℕ) (x : Item) (init into : List ℕ) (room now : ℕ) → i < length items → x ≡ get_or items i x →
     into ≡ init ++ items_bytes (take i items) → room ≤ now
     → now < length into + length (item_bytes x) → room < length init + length (items_bytes items)
-full_on items i x init into room now lt is e le small = omega (arith, length_front items i x lt is, ap length e,
-    length-append init (items_bytes (take i items)))
+full_on items i x init into room now lt is e le small = omega (
+  arith,
+  length_front items i x lt is,
+  ap length e,
+  length-append init (items_bytes (take i items)),
+)
 
 pub any_error : {T E : Type 0} (r : Result T E) (P : Type 0) → P → OnErr r P
 any_error (Ok x) P p = tt

@@ -47,14 +47,14 @@ front_is bs x all le b =
     let four : length (take 4 (drop 8 bs)) ≡ 4 = length-take-le 4 (drop 8 bs) (omega (arith, length-drop 8 bs)) in
     let eight : length (take 8 bs) ≡ 8 = length-take-le 8 bs (omega arith) in
     let term : to_be_bytes w64 (term_at_front bs) ≡ take 8 bs =
-        be_bytes_8 (take 8 bs) (term_at_front bs) eight (front_bytes bs 8 all) refl in
+    be_bytes_8 (take 8 bs) (term_at_front bs) eight (front_bytes bs 8 all) refl in
     let size : to_be_bytes w32 (length (spelled x)) ≡ take 4 (drop 8 bs) =
-        be_bytes_4 (take 4 (drop 8 bs)) (length (spelled x)) four (front_bytes (drop 8 bs) 4 (rest_bytes bs 8 all)) b.size in
+    be_bytes_4 (take 4 (drop 8 bs)) (length (spelled x)) four (front_bytes (drop 8 bs) 4 (rest_bytes bs 8 all)) b.size in
     let rest : drop 4 (drop 8 bs) ≡ spelled x ++ b.rest = drop-drop 4 8 bs ∙ b.same in
     let tail : drop 8 bs ≡ take 4 (drop 8 bs) ++ (spelled x ++ b.rest) = sym (take-append-drop 4 (drop 8 bs))
-        ∙ ap (λ (l : List ℕ). take 4 (drop 8 bs) ++ l) rest in
+    ∙ ap (λ (l : List ℕ). take 4 (drop 8 bs) ++ l) rest in
     let whole : bs ≡ take 8 bs ++ (take 4 (drop 8 bs) ++ (spelled x ++ b.rest)) = sym (take-append-drop 8 bs)
-        ∙ ap (λ (l : List ℕ). take 8 bs ++ l) tail in
+    ∙ ap (λ (l : List ℕ). take 8 bs ++ l) tail in
     whole ∙ sym (joined (take 8 bs) (take 4 (drop 8 bs)) (spelled x) b.rest)
     ∙ ap (λ (t : List ℕ). ((t ++ take 4 (drop 8 bs)) ++ spelled x) ++ b.rest) (sym term)
     ∙ ap (λ (t : List ℕ). ((to_be_bytes w64 (term_at_front bs) ++ t) ++ spelled x) ++ b.rest) (sym size)
@@ -82,7 +82,7 @@ front_of bs i rest few allowed e =
     let short : length s < 2 ^ 32 = omega (arith, allowed_short i.entry allowed) in
     let tail : drop 8 bs ≡ b ++ (s ++ rest) = ap (drop 8) whole ∙ drop_at a (b ++ (s ++ rest)) 8 eight in
     let size : size_at_front bs ≡ length s = ap (λ (l : List ℕ). from_be_bytes w32 (take 4 l)) tail
-        ∙ ap (from_be_bytes w32) (take_at b (s ++ rest) 4 four) ∙ from_be_bytes-to_be_bytes_4 (length s) short in
+    ∙ ap (from_be_bytes w32) (take_at b (s ++ rest) 4 four) ∙ from_be_bytes-to_be_bytes_4 (length s) short in
     record {
       there = omega (arith, ap length whole, eight, four, length-append a (b ++ (s ++ rest)), length-append b (s ++ rest));
       term = ap (λ (l : List ℕ). from_be_bytes w64 (take 8 l)) whole ∙ ap (from_be_bytes w64) (take_at a (b ++ (s ++ rest)) 8 eight)
@@ -116,8 +116,10 @@ one_front one bs i j r s few less f g d e =
 
 pub one_begins : OneSpelling → (least greatest : ℕ) (bs : List ℕ) (i j : Item) → greatest < 2 ^ 64 →
     BeginsWith least greatest bs i → BeginsWith least greatest bs j → i ≡ j
-one_begins one least greatest bs i j few a b = one_front one bs i j a.rest b.rest (omega (arith, a.below)) (omega (arith,
-    b.below)) a.allowed b.allowed a.same b.same
+one_begins one least greatest bs i j few a b = one_front one bs i j a.rest b.rest (omega (arith, a.below)) (omega (
+  arith,
+  b.below,
+)) a.allowed b.allowed a.same b.same
 
 -- ---- a list of items
 
@@ -131,19 +133,19 @@ ones one (i ∷ is) (j ∷ js) r s t u f g n e =
     let bs : List ℕ = item_bytes i ++ (items_bytes is ++ r) in
     let left : (item_bytes i ++ items_bytes is) ++ r ≡ bs = append_assoc (item_bytes i) (items_bytes is) r in
     let right : (item_bytes j ++ items_bytes js) ++ s ≡ item_bytes j ++ (items_bytes js ++ s) =
-        append_assoc (item_bytes j) (items_bytes js) s in
+    append_assoc (item_bytes j) (items_bytes js) s in
     let both : bs ≡ item_bytes j ++ (items_bytes js ++ s) = sym left ∙ e ∙ right in
     let first : i ≡ j = one_front one bs i j (items_bytes is ++ r) (items_bytes js ++ s)
-        (All-head (λ (x : Item). x.term < 2 ^ 64) i is t) (All-head (λ (x : Item). x.term < 2 ^ 64) j js u)
-        (All-head (λ (x : Item). IsTrue (entry_allowed x.entry)) i is f)
-            (All-head (λ (x : Item). IsTrue (entry_allowed x.entry)) j js g) refl both in
+    (All-head (λ (x : Item). x.term < 2 ^ 64) i is t) (All-head (λ (x : Item). x.term < 2 ^ 64) j js u)
+    (All-head (λ (x : Item). IsTrue (entry_allowed x.entry)) i is f)
+    (All-head (λ (x : Item). IsTrue (entry_allowed x.entry)) j js g) refl both in
     let behind : items_bytes is ++ r ≡ items_bytes js ++ s =
-        append_cancel_left (item_bytes i) (items_bytes is ++ r) (items_bytes js ++ s) (both
-        ∙ ap (λ (x : Item). item_bytes x ++ (items_bytes js ++ s)) (sym first)) in
+    append_cancel_left (item_bytes i) (items_bytes is ++ r) (items_bytes js ++ s) (both
+    ∙ ap (λ (x : Item). item_bytes x ++ (items_bytes js ++ s)) (sym first)) in
     let rest : is ≡ js = ones one is js r s
-        (All-tail (λ (x : Item). x.term < 2 ^ 64) i is t) (All-tail (λ (x : Item). x.term < 2 ^ 64) j js u)
-        (All-tail (λ (x : Item). IsTrue (entry_allowed x.entry)) i is f)
-            (All-tail (λ (x : Item). IsTrue (entry_allowed x.entry)) j js g) (omega arith) behind in
+    (All-tail (λ (x : Item). x.term < 2 ^ 64) i is t) (All-tail (λ (x : Item). x.term < 2 ^ 64) j js u)
+    (All-tail (λ (x : Item). IsTrue (entry_allowed x.entry)) i is f)
+    (All-tail (λ (x : Item). IsTrue (entry_allowed x.entry)) j js g) (omega arith) behind in
     cc
 
 pub one_counted : OneSpelling → (is js : List Item) (r s : List ℕ) → AreItems is → AreItems js → counted is ++ r ≡ counted js ++ s → is ≡ js
@@ -152,12 +154,12 @@ one_counted one is js r s a b e =
     let m : List ℕ = to_be_bytes w32 (length is) in
     let n : List ℕ = to_be_bytes w32 (length js) in
     let whole : m ++ (items_bytes is ++ r) ≡ n ++ (items_bytes js ++ s) = sym (append_assoc m (items_bytes is) r) ∙ e
-        ∙ append_assoc n (items_bytes js) s in
+    ∙ append_assoc n (items_bytes js) s in
     let head : m ≡ n = cut m n (items_bytes is ++ r) (items_bytes js ++ s) whole refl in
     let number : length is ≡ length js = sym (from_be_bytes-to_be_bytes_4 (length is) a.number) ∙ ap (from_be_bytes w32) head
-        ∙ from_be_bytes-to_be_bytes_4 (length js) b.number in
+    ∙ from_be_bytes-to_be_bytes_4 (length js) b.number in
     let behind : items_bytes is ++ r ≡ items_bytes js ++ s = append_cancel_left m (items_bytes is ++ r) (items_bytes js ++ s) (whole
-        ∙ ap (λ (l : List ℕ). l ++ (items_bytes js ++ s)) (sym head)) in
+    ∙ ap (λ (l : List ℕ). l ++ (items_bytes js ++ s)) (sym head)) in
     ones one is js r s a.terms b.terms a.entries b.entries number behind
 
 -- ---- the first wrong field
@@ -165,9 +167,11 @@ one_counted one is js r s a b e =
 pub begins_right : (least greatest : ℕ) (bs : List ℕ) (i : Item) → greatest < 2 ^ 64 → BeginsWith least greatest bs i →
     RightTerm least greatest bs × (12 ≤ length bs) × RightEntry bs
 begins_right least greatest bs i few b =
-    let f = front_of bs i b.rest (omega (arith, b.below)) b.allowed b.same in
-    (record { there = omega (arith, f.there); above = omega (arith, f.term, b.above); below = omega (arith, f.term, b.below) },
-        f.there, (i.entry, b.allowed, f.behind))
+    let f = front_of bs i b.rest (omega (arith, b.below)) b.allowed b.same in (
+      record { there = omega (arith, f.there); above = omega (arith, f.term, b.above); below = omega (arith, f.term, b.below) },
+      f.there,
+      (i.entry, b.allowed, f.behind),
+    )
 
 abbrev pub refusal : ItemField → Result (Item × ℕ) ItemError
 refusal field = Err (Wrong field)
@@ -207,12 +211,14 @@ too_far bs size le is lt r = absurd (omega (arith, in_bounds bs r.0 size le is r
 pub entry_read : (bs s : List ℕ) (size : ℕ) (x : Entry) → size ≡ size_at_front bs → size ≤ 1_048_576 → 12 + size ≤ length bs →
     s ≡ take size (drop 12 bs) → IsTrue (entry_fits x) → s ≡ spelled x → IsTrue (entry_allowed x) × Behind bs x
 entry_read bs s size x is short le e fits same =
-    let n : length (spelled x) ≡ size = ap length (sym same ∙ e) ∙ length-take-le size (drop 12 bs) (omega (arith, length-drop 12 bs)) in
-    (allowed_by x fits (omega (arith, n)), record {
-      size = n ∙ is;
-      rest = drop size (drop 12 bs);
-      same = sym (take-append-drop size (drop 12 bs)) ∙ ap (λ (l : List ℕ). l ++ drop size (drop 12 bs)) (sym e ∙ same);
-    })
+    let n : length (spelled x) ≡ size = ap length (sym same ∙ e) ∙ length-take-le size (drop 12 bs) (omega (arith, length-drop 12 bs)) in (
+      allowed_by x fits (omega (arith, n)),
+      record {
+        size = n ∙ is;
+        rest = drop size (drop 12 bs);
+        same = sym (take-append-drop size (drop 12 bs)) ∙ ap (λ (l : List ℕ). l ++ drop size (drop 12 bs)) (sym e ∙ same);
+      },
+    )
 
 -- no entry was read there, so none stands there
 pub entry_unread : (bs s : List ℕ) (size : ℕ) → size ≡ size_at_front bs → s ≡ take size (drop 12 bs) →

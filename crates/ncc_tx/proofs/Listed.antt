@@ -75,8 +75,13 @@ module _ {A : Type 0} (f : A → Value) where
 
   pub ends : (xs ys : List A) (i : ℕ) → ys ≡ xs → length ys ≤ i → head lists (length xs) ++ spelled_to f i ys ≡ short (v.List (map f xs))
   unfolding list
-  ends xs ys i same le = sym (short_list (map f xs) ∙ rw (length-map (map f xs) short, length-map xs f, spelled_all xs,
-      take_all i ys le, same) refl)
+  ends xs ys i same le = sym (short_list (map f xs) ∙ rw (
+    length-map (map f xs) short,
+    length-map xs f,
+    spelled_all xs,
+    take_all i ys le,
+    same,
+  ) refl)
 
   -- a sum of lengths, with one more item
   pub adds : (sum t n : ℕ) (ys : List A) (i : ℕ) (x : A) → i < length ys → x ≡ get_or ys i x →
@@ -97,8 +102,12 @@ module _ {A : Type 0} (f : A → Value) where
 front_le : {A : Type 0} (g : A → List ℕ) (ys : List A) (i : ℕ) → length (concat (map g (take i ys))) ≤ length (concat (map g ys))
 front_le g ys zero = omega arith
 front_le g [] (suc i) = omega arith
-front_le g (y ∷ ys) (suc i) = omega (arith, length-append (g y) (concat (map g (take i ys))),
-    length-append (g y) (concat (map g ys)), front_le g ys i)
+front_le g (y ∷ ys) (suc i) = omega (
+  arith,
+  length-append (g y) (concat (map g (take i ys))),
+  length-append (g y) (concat (map g ys)),
+  front_le g ys i,
+)
 
 module _ {A : Type 0} (f : A → Value) (xs ys : List A) (same : ys ≡ xs) where
   whole_length : length (short (v.List (map f xs))) ≡ length (head lists (length xs)) + length (spelled_to f (length ys) ys)
@@ -114,8 +123,15 @@ module _ {A : Type 0} (f : A → Value) (xs ys : List A) (same : ys ≡ xs) wher
       → now < length into + length (short (f x)) → room < length init + length (short (v.List (map f xs)))
   full_item i x init into room now lt is e le small =
       let more : length (spelled_to f (i + 1) ys) ≡ length (spelled_to f i ys) + length (short (f x)) =
-          ap length (one_more f ys i x lt is) ∙ length-append (spelled_to f i ys) (short (f x)) in
+      ap length (one_more f ys i x lt is) ∙ length-append (spelled_to f i ys) (short (f x)) in
       let top : length (spelled_to f (i + 1) ys) ≤ length (spelled_to f (length ys) ys) =
-          rw (take_all (length ys) ys (omega arith)) (front_le (λ y. short (f y)) ys (i + 1)) in
-      omega (arith, whole_length, more, top, ap length e, length-append init (head lists (length xs) ++ spelled_to f i ys),
-          length-append (head lists (length xs)) (spelled_to f i ys))
+      rw (take_all (length ys) ys (omega arith)) (front_le (λ y. short (f y)) ys (i + 1)) in
+      omega (
+        arith,
+        whole_length,
+        more,
+        top,
+        ap length e,
+        length-append init (head lists (length xs) ++ spelled_to f i ys),
+        length-append (head lists (length xs)) (spelled_to f i ys),
+      )

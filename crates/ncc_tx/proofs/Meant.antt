@@ -37,5 +37,7 @@ gives_again : (told : Told) (end : Graph) → IsTrue (gives told (run_to told en
 gives_again told end = (lists_decided told told).1 refl
 
 pub means : (g : Graph) (steps : List Step) (told : Told) → IsTrue (valid g (e.Tx steps told)) ↔ RunsTo g steps told
-means g steps told = (gave told (exec g (map call_of steps)),
-    λ r. subst (λ (run : Answer Ended). IsTrue (gives told run)) (sym r.1) (gives_again told r.0))
+means g steps told = (
+  gave told (exec g (map call_of steps)),
+  λ r. subst (λ (run : Answer Ended). IsTrue (gives told run)) (sym r.1) (gives_again told r.0),
+)

@@ -26,7 +26,7 @@ two_put x y init one two e f = rw (f, e, two_spelled x y) (append_assoc (init ++
 pub two_length : (x y : Value) → length (short (v.List (x ∷ y ∷ []))) ≡ (1 + length (short x)) + length (short y)
 two_length x y =
     let parts : length (short (v.List (x ∷ y ∷ []))) ≡ length ((0x92 ∷ []) ++ (short x ++ short y)) = ap length (two_spelled x y
-        ∙ ap (λ (h : List ℕ). h ++ (short x ++ short y)) two_head) in
+    ∙ ap (λ (h : List ℕ). h ++ (short x ++ short y)) two_head) in
     omega (arith, parts, length-append (short x) (short y))
 
 sum_of_two : (a b t d s r : ℕ) → t ≡ min a greatest → d ≡ min b greatest → s ≡ min (1 + t) greatest → r ≡ min (s + d) greatest →
@@ -48,13 +48,25 @@ whole_by deeper x h = deeper x 31 (deeper x 30 (deeper x 29 h))
 
 pub two_full : (x y : Value) (init one : List ℕ) (room now : ℕ) → one ≡ init ++ head lists 2 → room ≤ now →
     now < length one + length (short x) → room < length init + length (short (v.List (x ∷ y ∷ [])))
-two_full x y init one room now e le small = omega (arith, ap length e, length-append init (head lists 2), ap length two_head,
-    two_length x y)
+two_full x y init one room now e le small = omega (
+  arith,
+  ap length e,
+  length-append init (head lists 2),
+  ap length two_head,
+  two_length x y,
+)
 
 pub two_full_behind : (x y : Value) (init one two : List ℕ) (room now : ℕ) → one ≡ init ++ head lists 2 → two ≡ one ++ short x →
     room ≤ now → now < length two + length (short y) → room < length init + length (short (v.List (x ∷ y ∷ [])))
-two_full_behind x y init one two room now e f le small = omega (arith, ap length e, ap length f, length-append init (head lists 2),
-    length-append one (short x), ap length two_head, two_length x y)
+two_full_behind x y init one two room now e f le small = omega (
+  arith,
+  ap length e,
+  ap length f,
+  length-append init (head lists 2),
+  length-append one (short x),
+  ap length two_head,
+  two_length x y,
+)
 
 pub two_full_head : (x y : Value) (room len : ℕ) → room < len + length (head lists 2) → room < len + length (short (v.List (x ∷ y ∷ [])))
 two_full_head x y room len lt = omega (arith, ap length two_head, two_length x y)

@@ -46,7 +46,7 @@ stops [] c rest none = here c rest none
 stops (s ∷ ss) c rest none =
     let e : length ss + 1 ≡ suc (length ss) = omega arith in
     subst (λ (n : ℕ). Fails n (call_of s ∷ (map call_of ss ++ c ∷ rest))) e
-        (there (length ss) (call_of s) (map call_of ss ++ c ∷ rest) (s.statement, s.reads) (stops ss c rest none))
+    (there (length ss) (call_of s) (map call_of ss ++ c ∷ rest) (s.statement, s.reads) (stops ss c rest none))
 
 -- the calls of steps all parse
 pub none_stops : (front rest : List Call) (c : Call) (ss : List Step) → front ++ c ∷ rest ≡ map call_of ss → (Parses c → ⊥) → ⊥
@@ -83,8 +83,8 @@ pub stands_more : (calls : List Call) (steps : List Step) (left rest : List Call
 stands_more calls steps left rest number c source s new before is e parts more =
     let same : call_of s ≡ c = λ i. record { source = (parts.0 ∙ e) i; params = parts.1 i } in
     let all : map call_of (steps ++ s ∷ []) ++ rest ≡ calls = ap (λ (t : List Call). t ++ rest) (map_push call_of steps s)
-        ∙ append_assoc (map call_of steps) (call_of s ∷ []) rest ∙ ap (λ (x : Call). map call_of steps ++ x ∷ rest) same
-        ∙ ap (λ (t : List Call). map call_of steps ++ t) (sym is) ∙ before.calls_are in
+    ∙ append_assoc (map call_of steps) (call_of s ∷ []) rest ∙ ap (λ (x : Call). map call_of steps ++ x ∷ rest) same
+    ∙ ap (λ (t : List Call). map call_of steps ++ t) (sym is) ∙ before.calls_are in
     subst (λ (ss : List Step). Stands calls ss rest (number + 1)) (sym more) record {
       calls_are = all;
       number_is = omega (arith, before.number_is, length-append steps (s ∷ []));
@@ -94,8 +94,13 @@ stands_more calls steps left rest number c source s new before is e parts more =
 
 parts_same : (source : List ℕ) (told : Statement) (params : List (List ℕ
     × Value)) (p q : parsed source ≡ read_as told) (f g : fits (v.Dict params) ≡ true)
-    → ◌≡◌ {A = Step} (record { source = source; statement = told; params = params; reads = p; fits = f }) (record { source = source;
-        statement = told; params = params; reads = q; fits = g })
+    → ◌≡◌ {A = Step} (record { source = source; statement = told; params = params; reads = p; fits = f }) (record {
+      source = source;
+      statement = told;
+      params = params;
+      reads = q;
+      fits = g;
+    })
 parts_same source told params p q f g = λ i. record {
   source = source;
   statement = told;
@@ -107,8 +112,8 @@ parts_same source told params p q f g = λ i. record {
 step_same : (a b : Step) → a.source ≡ b.source → a.statement ≡ b.statement → a.params ≡ b.params → a ≡ b
 step_same a b e f g =
     subst₃ (λ (source : List ℕ) (statement : Statement) (params : List (List ℕ
-        × Value)). (p : parsed source ≡ read_as statement) (q : fits (v.Dict params) ≡ true) →
-        a ≡ record { source = source; statement = statement; params = params; reads = p; fits = q })
+    × Value)). (p : parsed source ≡ read_as statement) (q : fits (v.Dict params) ≡ true) →
+    a ≡ record { source = source; statement = statement; params = params; reads = p; fits = q })
     e f g (λ p q. parts_same a.source a.statement a.params a.reads p a.fits q) b.reads b.fits
 
 pub same_steps : (xs ys : List Step) → map call_of xs ≡ map call_of ys → xs ≡ ys

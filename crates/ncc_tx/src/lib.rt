@@ -20,4 +20,6 @@ pub use kept::{change_leads, kept_on, leads_on, one_change, same_terms, terms_pa
 pub use read::{entry_of, one_spelling};
 pub use stamp::{Stamp, stamp_item, stamps_grow};
 pub use validity::{absorb, equal_is_same, state_grows, valid, valid_means};
-pub use write::{MAX_ENTRY, entry_allowed, entry_bytes, entry_fits, entry_len, entry_within, noop_allowed};
+pub use write::{
+    MAX_ENTRY, entry_allowed, entry_bytes, entry_fits, entry_len, entry_within, noop_allowed,
+};

@@ -258,8 +258,10 @@ fn put_told(told: &RowLists, into: &mut Vec<u8>) -> Result<(), Memory>
 
 fn put_tx(steps: &Steps, told: &RowLists, into: &mut Vec<u8>) -> Result<(), Memory>
     requires { IsTrue (fits (pair_value (calls_value (map call_of steps.now), told_value told.now))) }
-    ensures ok { OnOk result (into.new.items ≡ into.old.items ++ short (pair_value (calls_value (map call_of steps.now),
-        told_value told.now))) }
+    ensures ok { OnOk result (into.new.items ≡ into.old.items ++ short (pair_value (
+      calls_value (map call_of steps.now),
+      told_value told.now,
+    ))) }
     ensures err { OnErr result (Begins into.old.items into.new.items) }
     ensures grows { vec_capacity into.old ≤ vec_capacity into.new }
     ensures full { OnErr result (vec_capacity into.old < length into.old.items + length

@@ -8,8 +8,10 @@ pub returns-clause-ok : goal.returns-clause-ok
 returns-clause-ok c =
     let short = allowed_short c.args.item.now.entry c.requires in
     on_ok_weaker c.put_entry.result
-        (λ e. item_put c.args.into.now.items c.extend_from_slice.new.self.items c.extend_from_slice-2.new.self.items
-            c.put_entry.new.into.items c.entry_len-size.result c.args.item.now
-        (cc (c.in_ok-extend_from_slice.ensures.items, c.to_be_bytes.ensures)) (cc (c.in_ok-extend_from_slice-2.ensures.items,
-            c.to_be_bytes-2.ensures)) e (grind (arith, short, c.entry_len-size.ensures.length)))
+    (λ e. item_put c.args.into.now.items c.extend_from_slice.new.self.items c.extend_from_slice-2.new.self.items
+    c.put_entry.new.into.items c.entry_len-size.result c.args.item.now
+    (cc (c.in_ok-extend_from_slice.ensures.items, c.to_be_bytes.ensures)) (cc (
+      c.in_ok-extend_from_slice-2.ensures.items,
+      c.to_be_bytes-2.ensures,
+    )) e (grind (arith, short, c.entry_len-size.ensures.length)))
     c.put_entry.ensures.ok

@@ -9,4 +9,4 @@ returns-in_err-put_item-clause-full c =
     let now = c.loop-item.into in
     any_error c.from_residual.result (vec_capacity init < length init.items + length (items_bytes c.args.items.now))
     (full_on c.args.items.now c.loop-item.item-index c.item-item.result init.items now.items (vec_capacity init) (vec_capacity now)
-        c.loop-item-test.true c.item-item.is c.loop-item.invariant.written c.loop-item.invariant.grows c.in_err-put_item.ensures.full)
+    c.loop-item-test.true c.item-item.is c.loop-item.invariant.written c.loop-item.invariant.grows c.in_err-put_item.ensures.full)

@@ -21,8 +21,12 @@ returns-in-Ok-clause-some c =
     let bs = c.args.bytes.now in
     let e = take_rest bs 12 in
     let h = c.in-Ok.ensures.found in
-    entry_read bs _ c.args.size c.in-Ok.entry c.requires.size c.if-size-gt-MAX_ENTRY.false (omega (arith, c.if-size-behind.false,
-        ap length e, length-drop 12 bs)) (ap (take c.args.size) e) h.0 h.1
+    entry_read bs _ c.args.size c.in-Ok.entry c.requires.size c.if-size-gt-MAX_ENTRY.false (omega (
+      arith,
+      c.if-size-behind.false,
+      ap length e,
+      length-drop 12 bs,
+    )) (ap (take c.args.size) e) h.0 h.1
 
 pub returns-in-Err : goal.returns-in-Err
 returns-in-Err c =

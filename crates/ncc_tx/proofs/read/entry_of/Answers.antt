@@ -59,7 +59,7 @@ pub returns-in_err-steps-in-Some-Tx-clause-only : goal.returns-in_err-steps-in-S
 returns-in_err-steps-in-Some-Tx-clause-only c = λ x f e.
     let is = rw (c.in-Some-Tx.is, c.in-Some-Tx.field-0-is) at c.in_ok-shape_of.ensures in
     let tx = tx_is c.args.bytes.now c.in-Ok.read.0 c.in-Ok.read.1 c.in-Ok.ensures.again c.in-Some-Tx.calls c.in-Some-Tx.told is.1 x
-        (is_of c.args.bytes.now x f e) in
+    (is_of c.args.bytes.now x f e) in
     let p = err_from_is_err_and c.from_residual-in_err-steps-in-Some-Tx.result c.from_residual-in_err-steps-in-Some-Tx.ensures.1 in
     rw (p.1, p.2) (steps_refused c.in_err-steps-in-Some-Tx.field-0.0 tx.0 (c.in_err-steps-in-Some-Tx.ensures.only tx.0 tx.1) x)
 
@@ -67,5 +67,5 @@ pub returns-in_ok-steps-in-Some-Tx-clause-only : goal.returns-in_ok-steps-in-Som
 returns-in_ok-steps-in-Some-Tx-clause-only c = λ x f e.
     let is = rw (c.in-Some-Tx.is, c.in-Some-Tx.field-0-is) at c.in_ok-shape_of.ensures in
     let tx = tx_is c.args.bytes.now c.in-Ok.read.0 c.in-Ok.read.1 c.in-Ok.ensures.again c.in-Some-Tx.calls c.in-Some-Tx.told is.1 x
-        (is_of c.args.bytes.now x f e) in
+    (is_of c.args.bytes.now x f e) in
     steps_answered x c.in_ok-steps-in-Some-Tx.steps tx.0 c.in-Some-Tx.told (c.in_ok-steps-in-Some-Tx.ensures.only tx.0 tx.1) tx.2

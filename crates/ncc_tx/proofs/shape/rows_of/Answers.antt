@@ -7,5 +7,5 @@ pub returns-in_default-item : goal.returns-in_default-item
 returns-in_default-item c =
     let (_, _, parts) = c.loop-item.invariant in
     no_list v.List c.args.value
-        (map v.List c.loop-item.rows) c.loop-item.item-iterator.rest.items c.next.new.self.rest.items c.in-Some.item parts
-            c.in-Some.ensures.steps.0 (c.in_default-item.not-List)
+    (map v.List c.loop-item.rows) c.loop-item.item-iterator.rest.items c.next.new.self.rest.items c.in-Some.item parts
+    c.in-Some.ensures.steps.0 (c.in_default-item.not-List)

@@ -7,5 +7,5 @@ pub returns-in-None-2 : goal.returns-in-None-2
 returns-in-None-2 c =
     let (_, _, parts) = c.loop-item.invariant in
     no_list rows_value c.args.value
-        (map rows_value c.loop-item.told) c.loop-item.item-iterator.rest.items c.next.new.self.rest.items c.in-Some.item parts
-            c.in-Some.ensures.steps.0 (rw c.in-None-2.is at c.in_ok-rows_of.ensures)
+    (map rows_value c.loop-item.told) c.loop-item.item-iterator.rest.items c.next.new.self.rest.items c.in-Some.item parts
+    c.in-Some.ensures.steps.0 (rw c.in-None-2.is at c.in_ok-rows_of.ensures)

@@ -8,22 +8,22 @@ use Rattle.ncc_tx.proofs.write.put_told.Goals as goal
 pub returns-in_err-put_head-clause-full : goal.returns-in_err-put_head-clause-full
 returns-in_err-put_head-clause-full c =
     any_error c.from_residual.result (vec_capacity c.args.into.now < length c.args.into.now.items + length
-        (short (told_value c.args.told.now)))
+    (short (told_value c.args.told.now)))
     (full_head rows_value c.args.told.now c.args.told.now refl c.len.result (vec_capacity c.args.into.now)
-        (length c.args.into.now.items) c.len.ensures c.in_err-put_head.ensures.full)
+    (length c.args.into.now.items) c.len.ensures c.in_err-put_head.ensures.full)
 
 pub put_rows-requires : goal.put_rows-requires
 put_rows-requires c =
     item_fits rows_value c.args.told.now 31 c.as_slice-rows-items.result.now c.loop-rows.rows-index c.rows-item.result
-        (omega arith) c.as_slice-rows-items.ensures c.loop-rows-test.true c.rows-item.is c.requires
+    (omega arith) c.as_slice-rows-items.ensures c.loop-rows-test.true c.rows-item.is c.requires
 
 pub returns-in_err-put_rows-clause-full : goal.returns-in_err-put_rows-clause-full
 returns-in_err-put_rows-clause-full c =
     any_error c.from_residual-in_err-put_rows.result (vec_capacity c.args.into.now < length c.args.into.now.items + length
-        (short (told_value c.args.told.now)))
+    (short (told_value c.args.told.now)))
     (full_item rows_value c.args.told.now c.as_slice-rows-items.result.now c.as_slice-rows-items.ensures c.loop-rows.rows-index
-        c.rows-item.result c.args.into.now.items c.loop-rows.into.items (vec_capacity c.args.into.now) (vec_capacity c.loop-rows.into)
-        c.loop-rows-test.true c.rows-item.is c.loop-rows.invariant.written c.loop-rows.invariant.grows c.in_err-put_rows.ensures.full)
+    c.rows-item.result c.args.into.now.items c.loop-rows.into.items (vec_capacity c.args.into.now) (vec_capacity c.loop-rows.into)
+    c.loop-rows-test.true c.rows-item.is c.loop-rows.invariant.written c.loop-rows.invariant.grows c.in_err-put_rows.ensures.full)
 
 pub loop-rows-preserved : goal.loop-rows-preserved
 loop-rows-preserved c = record {
@@ -36,6 +36,6 @@ loop-rows-preserved c = record {
 pub returns-clause-ok : goal.returns-clause-ok
 returns-clause-ok c =
     c.loop-rows.invariant.written
-        ∙ ap (λ t. c.args.into.now.items ++ t)
-        (ends rows_value c.args.told.now c.as_slice-rows-items.result.now c.loop-rows.rows-index c.as_slice-rows-items.ensures
-            c.loop-rows-test.false)
+    ∙ ap (λ t. c.args.into.now.items ++ t)
+    (ends rows_value c.args.told.now c.as_slice-rows-items.result.now c.loop-rows.rows-index c.as_slice-rows-items.ensures
+    c.loop-rows-test.false)
