@@ -11,7 +11,7 @@ returns c =
       text = subst P c.self.view_is
           (text_made (record { cluster = c.self.inside.cluster; place = c.self.inside.place })
           c.push_str.new.self c.as_str.result.now c.as_slice.result.now
-          (c.in_ok-push_str.ensures.ok ∙ ap (λ t. t ++ c.as_str.result.now) c.in_ok-text.ensures)
+          (c.in_ok-push_str.ensures.ok ∙ ap (λ t. t ++ c.as_str.result.now) c.in_ok-text.ensures.same)
           (c.as_str.ensures.value ∙ c.in_ok-encoded.ensures)
           (c.as_slice.ensures.value ∙ c.in_ok-bytes.ensures));
     }
