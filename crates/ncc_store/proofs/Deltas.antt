@@ -92,7 +92,7 @@ pub put_is : (d : Delta) (g : Graph) → IsGraph g → Ascends d.put
     → filter (λ n. not (list_any (int_eq n.id) d.gone)) (replaced (old_ones g.next d.put) g.nodes) ++ filter (λ n. beq true (not (int_lt n.id g.next))) d.put ≡ (applied d g).nodes
 put_is d g legal a =
     let kept : StoredNode → Bool = λ n. not (list_any (int_eq n.id) d.gone) in
-    let same : map (latest (old_ones g.next d.put)) g.nodes ≡ map (renewed d) g.nodes = map_all (λ n. (pos 0 ≤ℤ n.id) × (n.id <ℤ g.next)) (latest (old_ones g.next d.put)) (renewed d) (λ n h. ap (or_else n) (find_filter (λ m. beq false (not (int_lt m.id g.next))) n.id d.put (λ m e. old m.id n.id g.next e h.1))) g.nodes legal.below in
+    let same : map (latest (old_ones g.next d.put)) g.nodes ≡ map (renewed d) g.nodes = map_all (λ n. (pos 0 ≤ℤ n.id) × (n.id <ℤ g.next)) (latest (old_ones g.next d.put)) (renewed d) (λ n h. ap (or_else n) (find_filter (λ m. beq false (not (int_lt m.id g.next))) n.id d.put (λ m e. old m.id n.id g.next e h.1))) g.nodes legal.placed.below in
     ap₂ (λ (xs : List StoredNode) (ys : List StoredNode). xs ++ ys)
     (ap (filter kept) (replaced_latest (old_ones g.next d.put) g.nodes (ascends_filter _ d.put a) ∙ same) ∙ filter_map_same kept (renewed d) (λ n. ap (λ (i : ℤ). not (list_any (int_eq i) d.gone)) (latest_id d.put n)) g.nodes)
     (filter_agree _ _ (λ n. beq_true (not (int_lt n.id g.next))) d.put)

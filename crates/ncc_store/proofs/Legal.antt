@@ -9,4 +9,4 @@ pub legal_same : (next : ℤ) (nodes : List StoredNode) (n : ℤ) (ns : List Sto
 legal_same next nodes n ns e f h = subst IsGraph (ap₂ (λ (i : ℤ) (xs : List StoredNode). record { next = i; nodes = xs }) (sym e) (sym f)) h
 
 pub legal_empty : (next : ℤ) (nodes : List StoredNode) (n : ℤ) → next ≡ n → nodes ≡ [] → pos 0 ≤ℤ n → n ≤ℤ last_id → IsGraph (record { next = next; nodes = nodes })
-legal_empty next nodes n e f low high = legal_same next nodes n [] e f (record { low = low; high = high; ascending = ascends_nil; below = All-nil _; keyed = All-nil _ })
+legal_empty next nodes n e f low high = legal_same next nodes n [] e f (record { placed = record { low = low; high = high; ascending = ascends_nil; below = All-nil _ }; nodes = All-nil _ })

@@ -1,4 +1,5 @@
 pub mod Made
+pub mod Plain
 pub mod Keys
 pub mod Found
 pub mod Drafts
@@ -9,6 +10,9 @@ pub mod Placed
 pub mod Legal
 pub mod Searched
 pub mod Deltas
+pub mod Least
+pub mod Earlier
+pub mod Between
 pub mod Written
 pub mod Seen
 pub mod Writes
@@ -16,3 +20,8 @@ pub mod Changes
 pub mod Scanned
 pub mod Patterns
 pub mod Running
+pub mod Tests
+pub mod Joined
+pub mod Lasting
+pub mod Again
+pub mod Limits

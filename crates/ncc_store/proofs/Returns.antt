@@ -41,7 +41,7 @@ all_items params n list i front all le so_far = sym so_far ∙ rw (drop_all i li
 
 -- ---- rows
 
-is_few : (count bytes : ℕ) → count ≤ max_rows → bytes ≤ max_bytes → few count bytes ≡ true
+pub is_few : (count bytes : ℕ) → count ≤ max_rows → bytes ≤ max_bytes → few count bytes ≡ true
 is_few count bytes h k = grind (arith, le-leb)
 
 pub not_few : (count bytes : ℕ) → (max_rows < count) ⊎ ((count ≤ max_rows) × (max_bytes < bytes)) → few count bytes ≡ false

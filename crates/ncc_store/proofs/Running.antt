@@ -15,7 +15,7 @@ use Rattle.ncc_store.specs.Answers.{Gives}
 use Rattle.ncc_store.specs.Props.{Props, put}
 use Rattle.ncc_store.specs.Sum.{Answer, ◌>>=◌, sum}
 use Rattle.ncc_store.specs.Graph.{Graph, find, without}
-use Rattle.ncc_store.specs.Exec.{pairs, changed, renewed, set_one, set, deleted, nodes_of, Ended, step, exec}
+use Rattle.ncc_store.specs.Exec.{pairs, changed, node_set, set_one, set, deleted, nodes_of, Ended, step, call_of, behind, exec}
 use Rattle.ncc_store.proofs.Placed.{without_none}
 
 -- where one answer fails, so does another
@@ -23,10 +23,10 @@ pub passes : {X Y Z W : Type 0} (view : X → Y) (see : Z → W) (e : RunError) 
 passes view see (Fault f) a b h k = k f h
 passes view see Memory a b h k = tt
 
-next_at : {A : Type 0} (xs : List A) (i : ℕ) (x d : A) → i < length xs → x ≡ get_or xs i d → drop i xs ≡ x ∷ drop (i + 1) xs
+pub next_at : {A : Type 0} (xs : List A) (i : ℕ) (x d : A) → i < length xs → x ≡ get_or xs i d → drop i xs ≡ x ∷ drop (i + 1) xs
 next_at xs i x d lt is = drop_more xs i d lt ∙ ap (λ (y : _). y ∷ drop (i + 1) xs) (sym is)
 
-next_is : {A : Type 0} (xs : List A) (i : ℕ) (x : A) → i < length xs → x ≡ get_or xs i x → drop i xs ≡ x ∷ drop (i + 1) xs
+pub next_is : {A : Type 0} (xs : List A) (i : ℕ) (x : A) → i < length xs → x ≡ get_or xs i x → drop i xs ≡ x ∷ drop (i + 1) xs
 next_is xs i x lt is = next_at xs i x x lt is
 
 -- ---- pairs
@@ -63,16 +63,20 @@ module _ (params : Props) (cs : List Pair) (i : ℕ) (c : Pair) (ps : Props) (al
       ∙ sym (ap (λ (a : Answer Scalar). a >>= λ y. changed params (drop (i + 1) cs) (put ps c.key y)) e) ∙ sym (ap (λ (ds : List Pair). changed params ds ps) (next_is cs i c lt is)) ∙ so_far
 
 pub changes_end : (params : Props) (cs : List Pair) (i : ℕ) (c : Pair) (ps : Props) (n : StoredNode) (e : RunError) → i < length cs → c ≡ get_or cs i c → changed params (drop i cs) ps ≡ changed params cs n.props
-    → Gives (λ x. x) (Err e) (sum params ps c.value) → Gives {X = StoredNode} (λ m. m) (Err e) (renewed params cs n)
+    → Gives (λ x. x) (Err e) (sum params ps c.value) → Gives {X = StoredNode} (λ m. m) (Err e) (node_set params cs n)
 changes_end params cs i c ps n e lt is h g =
-    passes (λ x. x) (λ m. m) e (sum params ps c.value) (renewed params cs n) g
+    passes (λ x. x) (λ m. m) e (sum params ps c.value) (node_set params cs n) g
     (λ f k. ap (λ (a : Answer Props). a >>= λ qs. Ok (record n { props = qs })) (changes_fail params cs i c ps (changed params cs n.props) lt is h f k))
 
+pub changes_all : (params : Props) (cs : List Pair) (i : ℕ) (ps : Props) (n : StoredNode) → length cs ≤ i → changed params (drop i cs) ps ≡ changed params cs n.props → changed params cs n.props ≡ Ok ps
+unfolding changed
+changes_all params cs i ps n le h = sym h ∙ ap (λ (ds : List Pair). changed params ds ps) (drop_all i cs le)
+
 pub changes_done : (params : Props) (cs : List Pair) (i : ℕ) (ps : Props) (n m : StoredNode) → length cs ≤ i → changed params (drop i cs) ps ≡ changed params cs n.props → m.id ≡ n.id → m.label ≡ n.label → m.props ≡ ps
-    → renewed params cs n ≡ Ok m
+    → node_set params cs n ≡ Ok m
 unfolding changed
 changes_done params cs i ps n m le h id label props =
-    let done : changed params cs n.props ≡ Ok ps = sym h ∙ ap (λ (ds : List Pair). changed params ds ps) (drop_all i cs le) in
+    let done : changed params cs n.props ≡ Ok ps = changes_all params cs i ps n le h in
     let same : ◌≡◌ {A = StoredNode} (record n { props = ps }) m =
     ap₂ (λ (j : ℤ) (l : List ℕ). record { id = j; label = l; props = ps }) (sym id) (sym label) ∙ ap (λ (qs : Props). record { id = m.id; label = m.label; props = qs }) (sym props) in
     ap (λ (a : Answer Props). a >>= λ qs. Ok (record n { props = qs })) done ∙ ap Ok same
@@ -126,30 +130,27 @@ not_alone (h.Merge l p) g is n = refl
 
 -- ---- step by step
 
--- rows in front of those of further steps
-abbrev pub behind : List (List (List Value)) → Answer Ended → Answer Ended
-behind front r = r >>= λ e. Ok (record { rows = front ++ e.rows; graph = e.graph })
-
 behind_more : (front : List (List (List Value))) (rows : List (List Value)) (r : Answer Ended) → behind front (r >>= λ e. Ok (record { rows = rows ∷ e.rows; graph = e.graph })) ≡ behind (front ++ rows ∷ []) r
 behind_more front rows (Ok e) = ap (λ (rs : List (List (List Value))). Ok (record { rows = rs; graph = e.graph })) (sym (append_assoc front (rows ∷ []) e.rows))
 behind_more front rows (Err f) = refl
 
-module _ (front : List (List (List Value))) (g : Graph) (ss : List Step) (i : ℕ) (s : Step) (all : Answer Ended) (lt : i < length ss) (is : s ≡ get_or ss i s) (so_far : behind front (exec g (drop i ss)) ≡ all) where
-  steps_next : exec g (drop i ss) ≡ (step g s >>= λ r. exec r.1 (drop (i + 1) ss) >>= λ e. Ok (record { rows = r.0 ∷ e.rows; graph = e.graph }))
+module _ (front : List (List (List Value))) (g : Graph) (ss : List Step) (i : ℕ) (s : Step) (all : Answer Ended) (lt : i < length ss) (is : s ≡ get_or ss i s) (so_far : behind front (exec g (map call_of (drop i ss))) ≡ all) where
+  steps_next : exec g (map call_of (drop i ss)) ≡ (step g (call_of s) >>= λ r. exec r.1 (map call_of (drop (i + 1) ss)) >>= λ e. Ok (record { rows = r.0 ∷ e.rows; graph = e.graph }))
   unfolding exec
-  steps_next = ap (exec g) (next_is ss i s lt is)
+  steps_next = ap (λ (xs : List Step). exec g (map call_of xs)) (next_is ss i s lt is)
 
-  pub steps_more : (rows : List (List Value)) (new : Graph) → step g s ≡ Ok (rows, new) → behind (front ++ rows ∷ []) (exec new (drop (i + 1) ss)) ≡ all
+  pub steps_more : (rows : List (List Value)) (new : Graph) → step g (call_of s) ≡ Ok (rows, new) → behind (front ++ rows ∷ []) (exec new (map call_of (drop (i + 1) ss))) ≡ all
   steps_more rows new e =
-      sym (behind_more front rows (exec new (drop (i + 1) ss)))
-      ∙ sym (ap (λ (a : Answer (List (List Value) × Graph)). behind front (a >>= λ r. exec r.1 (drop (i + 1) ss) >>= λ x. Ok (record { rows = r.0 ∷ x.rows; graph = x.graph }))) e)
+      sym (behind_more front rows (exec new (map call_of (drop (i + 1) ss))))
+      ∙ sym (ap (λ (a : Answer (List (List Value) × Graph)). behind front (a >>= λ r. exec r.1 (map call_of (drop (i + 1) ss)) >>= λ x. Ok (record { rows = r.0 ∷ x.rows; graph = x.graph }))) e)
       ∙ sym (ap (behind front) steps_next) ∙ so_far
 
-  pub steps_end : {X Y : Type 0} (view : X → List (List Value) × Graph) (see : Y → Ended) (e : RunError) → Gives view (Err e) (step g s) → Gives see (Err e) all
+  pub steps_end : {X Y : Type 0} (view : X → List (List Value) × Graph) (see : Y → Ended) (e : RunError) → Gives view (Err e) (step g (call_of s)) → Gives see (Err e) all
   steps_end view see e gives =
-      passes view see e (step g s) all gives (λ f k. sym so_far ∙ ap (behind front) steps_next ∙ ap (λ (a : Answer (List (List Value) × Graph)). behind front (a >>= λ r. exec r.1 (drop (i + 1) ss) >>= λ x. Ok (record { rows = r.0 ∷ x.rows; graph = x.graph }))) k)
+      passes view see e (step g (call_of s)) all gives
+      (λ f k. sym so_far ∙ ap (behind front) steps_next ∙ ap (λ (a : Answer (List (List Value) × Graph)). behind front (a >>= λ r. exec r.1 (map call_of (drop (i + 1) ss)) >>= λ x. Ok (record { rows = r.0 ∷ x.rows; graph = x.graph }))) k)
 
-pub steps_done : (front : List (List (List Value))) (g : Graph) (ss : List Step) (i : ℕ) (all : Answer Ended) → length ss ≤ i → behind front (exec g (drop i ss)) ≡ all → all ≡ Ok (record { rows = front; graph = g })
+pub steps_done : (front : List (List (List Value))) (g : Graph) (ss : List Step) (i : ℕ) (all : Answer Ended) → length ss ≤ i → behind front (exec g (map call_of (drop i ss))) ≡ all → all ≡ Ok (record { rows = front; graph = g })
 unfolding exec
 steps_done front g ss i all le h =
-    sym h ∙ ap (λ (xs : List Step). behind front (exec g xs)) (drop_all i ss le) ∙ ap (λ (rs : List (List (List Value))). Ok (record { rows = rs; graph = g })) (append-nil front)
+    sym h ∙ ap (λ (xs : List Step). behind front (exec g (map call_of xs))) (drop_all i ss le) ∙ ap (λ (rs : List (List (List Value))). Ok (record { rows = rs; graph = g })) (append-nil front)

@@ -4,8 +4,7 @@ use Rattle.std.specs.Cmp.{signed_Decides}
 use Rattle.std.proofs.lemmas.Int.{ints}
 use Rattle.std.proofs.lemmas.List.Elements.{All-nil, All-cons, All-head, All-tail, All-append, All-weaker}
 use Rattle.ncc_store.specs.declared.node.StoredNode.{StoredNode}
-use Rattle.ncc_store.specs.Graph.{Graph, IsGraph, find}
-use Rattle.ncc_store.specs.Props.{IsKeyed}
+use Rattle.ncc_store.specs.Graph.{Graph, IsGraph, IsNode, IsPlaced, find}
 use Rattle.ncc_store.specs.Layers.{Layers, Written, written_at, one, seen_one, seen_below, fresh, seen, IsNodeAt, IsWritten, IsLayered}
 use Rattle.ncc_store.proofs.Placed.{same_id, apart, lt_is_true, lt_is_false, Ascends, Above, Under, From, above_head, ascends_tail, ascends_nil, ascends_cons, above_append, ascends_append, find_nil, find_here, find_past, find_above, find_append_none, find_append_some}
 use Rattle.ncc_store.proofs.Written.{Entry, Keyed, KeysAbove, keys_head, keys_tail, written_here, written_past, written_above, written_holds}
@@ -134,7 +133,7 @@ nodes_at g next es l = All-weaker (IsWritten g next) (λ e. IsNodeAt e.0 e.1) (�
 pub find_seen : (g : Graph) (next : ℤ) (es : Written) → IsLayered g next es → (id : ℤ) → find id (seen g next es).nodes ≡ over (written_at id es) (find id g.nodes)
 find_seen g next es l id =
     find_append id (seen_below es g.nodes) (fresh g.next es)
-    ∙ ap₂ or_next (find_below id es g.nodes (nodes_at g next es l) l.below.ascending) (find_fresh id g.next es (nodes_at g next es l) l.ordered)
+    ∙ ap₂ or_next (find_below id es g.nodes (nodes_at g next es l) l.below.placed.ascending) (find_fresh id g.next es (nodes_at g next es l) l.ordered)
     ∙ go (written_at id es) refl (int_lt id g.next) refl (find id g.nodes) refl where
       go : (w : Option (Option StoredNode)) → written_at id es ≡ w → (t : Bool) → int_lt id g.next ≡ t → (o : Option StoredNode) → find id g.nodes ≡ o → or_next (cover w o) (cond t None (flat w)) ≡ over w o
       go None e true h None f = refl
@@ -203,7 +202,7 @@ all_one : (P : StoredNode → Type 0) (o : Option StoredNode) → ((m : StoredNo
 all_one P None h = All-nil P
 all_one P (Some m) h = All-cons P m [] (h m refl) (All-nil P)
 
-all_below : (P : StoredNode → Type 0) (es : Written) (ns : List StoredNode) → NodesAt es → ((n m : StoredNode) → P n → m.id ≡ n.id → IsKeyed m.props → P m) → All P ns → All P (seen_below es ns)
+all_below : (P : StoredNode → Type 0) (es : Written) (ns : List StoredNode) → NodesAt es → ((n m : StoredNode) → P n → m.id ≡ n.id → IsNode m → P m) → All P ns → All P (seen_below es ns)
 all_below P es [] all h ps = subst (All P) (sym (seen_below_nil es)) (All-nil P)
 all_below P es (n ∷ ns) all h ps =
     subst (All P) (sym (seen_below_cons es n ns)) (All-append P (seen_one n (written_at n.id es)) (seen_below es ns) (go (written_at n.id es) (is_at n.id es all)) (all_below P es ns all h (All-tail P n ns ps))) where
@@ -225,11 +224,11 @@ pub under_from : (k : ℤ) (ns : List StoredNode) → All (λ n. n.id <ℤ k) ns
 under_from k [] h = tt
 under_from k (n ∷ ns) h = (All-head (λ x. x.id <ℤ k) n ns h, under_from k ns (All-tail (λ x. x.id <ℤ k) n ns h))
 
-from_from : (k : ℤ) (ns : List StoredNode) → All (λ n. k ≤ℤ n.id) ns → From k ns
+pub from_from : (k : ℤ) (ns : List StoredNode) → All (λ n. k ≤ℤ n.id) ns → From k ns
 from_from k [] h = tt
 from_from k (n ∷ ns) h = (All-head (λ x. k ≤ℤ x.id) n ns h, from_from k ns (All-tail (λ x. k ≤ℤ x.id) n ns h))
 
-node_at : (id : ℤ) (o : Option StoredNode) (m : StoredNode) → IsNodeAt id o → o ≡ Some m → (m.id ≡ id) × IsKeyed m.props
+node_at : (id : ℤ) (o : Option StoredNode) (m : StoredNode) → IsNodeAt id o → o ≡ Some m → (m.id ≡ id) × IsNode m
 node_at id o m at e = subst (IsNodeAt id) e at
 
 module _ (g : Graph) (next : ℤ) (es : Written) (l : IsLayered g next es) where
@@ -237,45 +236,47 @@ module _ (g : Graph) (next : ℤ) (es : Written) (l : IsLayered g next es) where
   stand = nodes_at g next es l
 
   under : Under g.next (seen_below es g.nodes)
-  under = under_from g.next (seen_below es g.nodes) (all_below (λ n. n.id <ℤ g.next) es g.nodes stand (λ n m h e k. subst (λ i. i <ℤ g.next) (sym e) h) (All-weaker (λ n. (pos 0 ≤ℤ n.id) × (n.id <ℤ g.next)) (λ n. n.id <ℤ g.next) (λ n h. h.1) g.nodes l.below.below))
+  under = under_from g.next (seen_below es g.nodes) (all_below (λ n. n.id <ℤ g.next) es g.nodes stand (λ n m h e k. subst (λ i. i <ℤ g.next) (sym e) h) (All-weaker (λ n. (pos 0 ≤ℤ n.id) × (n.id <ℤ g.next)) (λ n. n.id <ℤ g.next) (λ n h. h.1) g.nodes l.below.placed.below))
 
   from : From g.next (fresh g.next es)
   from = from_from g.next (fresh g.next es) (all_fresh (λ n. g.next ≤ℤ n.id) (λ e. IsNodeAt e.0 e.1) g.next es (λ e m h k f. subst (λ i. g.next ≤ℤ i) (sym (node_at e.0 e.1 m k f).0) (lt_is_false e.0 g.next h)) stand)
 
   pub ascends_seen : Ascends (seen g next es).nodes
-  ascends_seen = ascends_append g.next (seen_below es g.nodes) (fresh g.next es) (ascends_below es g.nodes stand l.below.ascending) under (ascends_fresh g.next es stand l.ordered) from
+  ascends_seen = ascends_append g.next (seen_below es g.nodes) (fresh g.next es) (ascends_below es g.nodes stand l.below.placed.ascending) under (ascends_fresh g.next es stand l.ordered) from
 
   pub within : All (λ n. (pos 0 ≤ℤ n.id) × (n.id <ℤ next)) (seen g next es).nodes
   within =
       let P : StoredNode → Type 0 = λ n. (pos 0 ≤ℤ n.id) × (n.id <ℤ next) in
       All-append P (seen_below es g.nodes) (fresh g.next es)
       (all_below P es g.nodes stand (λ n m h e k. (subst (λ i. pos 0 ≤ℤ i) (sym e) h.0, subst (λ i. i <ℤ next) (sym e) h.1))
-      (All-weaker (λ n. (pos 0 ≤ℤ n.id) × (n.id <ℤ g.next)) P (λ n h. (h.0, let a : n.id <ℤ g.next = h.1 in let b : g.next ≤ℤ next = l.low in omega (arith, ints))) g.nodes l.below.below))
+      (All-weaker (λ n. (pos 0 ≤ℤ n.id) × (n.id <ℤ g.next)) P (λ n h. (h.0, let a : n.id <ℤ g.next = h.1 in let b : g.next ≤ℤ next = l.low in omega (arith, ints))) g.nodes l.below.placed.below))
       (all_fresh P (IsWritten g next) g.next es (λ e m h k f. (subst (λ i. pos 0 ≤ℤ i) (sym (node_at e.0 e.1 m k.3 f).0) k.0, subst (λ i. i <ℤ next) (sym (node_at e.0 e.1 m k.3 f).0) k.1)) l.written)
 
-  keyed : All (λ n. IsKeyed n.props) (seen g next es).nodes
-  keyed =
-      All-append (λ n. IsKeyed n.props) (seen_below es g.nodes) (fresh g.next es)
-      (all_below (λ n. IsKeyed n.props) es g.nodes stand (λ n m h e k. k) l.below.keyed)
-      (all_fresh (λ n. IsKeyed n.props) (λ e. IsNodeAt e.0 e.1) g.next es (λ e m h k f. (node_at e.0 e.1 m k f).1) stand)
+  nodes_seen : All IsNode (seen g next es).nodes
+  nodes_seen =
+      All-append IsNode (seen_below es g.nodes) (fresh g.next es)
+      (all_below IsNode es g.nodes stand (λ n m h e k. k) l.below.nodes)
+      (all_fresh IsNode (λ e. IsNodeAt e.0 e.1) g.next es (λ e m h k f. (node_at e.0 e.1 m k f).1) stand)
 
-  pub legal_seen : IsGraph (seen g next es)
-  legal_seen = record {
-    low = let a : pos 0 ≤ℤ g.next = l.below.low in let b : g.next ≤ℤ next = l.low in omega (arith, ints);
+  placed_seen : IsPlaced (seen g next es)
+  placed_seen = record {
+    low = let a : pos 0 ≤ℤ g.next = l.below.placed.low in let b : g.next ≤ℤ next = l.low in omega (arith, ints);
     high = l.high;
     ascending = ascends_seen;
     below = within;
-    keyed = keyed;
   }
+
+  pub legal_seen : IsGraph (seen g next es)
+  legal_seen = record { placed = placed_seen; nodes = nodes_seen }
 
 -- ---- what a look-up in what is written says
 
-pub keyed_in : (id : ℤ) (o : Option StoredNode) (r : Option (Bor StoredNode)) → IsNodeAt id o → option_copied r ≡ o → IfSome r (λ n. IsKeyed n.now.props)
-keyed_in id o None at e = tt
-keyed_in id o (Some b) at e = (node_at id o b.now at (sym e)).1
+pub node_in : (id : ℤ) (o : Option StoredNode) (r : Option (Bor StoredNode)) → IsNodeAt id o → option_copied r ≡ o → IfSome r (λ n. IsNode n.now)
+node_in id o None at e = tt
+node_in id o (Some b) at e = (node_at id o b.now at (sym e)).1
 
-pub keyed_over : (es : Written) (q : ℤ) (o : Option StoredNode) (r : Option (Bor StoredNode)) → NodesAt es → Some o ≡ written_at q es → option_copied r ≡ o → IfSome r (λ n. IsKeyed n.now.props)
-keyed_over es q o r at w e = keyed_in q o r (written_holds (λ x. IsNodeAt x.0 x.1) q es o at (sym w)) e
+pub node_over : (es : Written) (q : ℤ) (o : Option StoredNode) (r : Option (Bor StoredNode)) → NodesAt es → Some o ≡ written_at q es → option_copied r ≡ o → IfSome r (λ n. IsNode n.now)
+node_over es q o r at w e = node_in q o r (written_holds (λ x. IsNodeAt x.0 x.1) q es o at (sym w)) e
 
 module _ (g : Graph) (next : ℤ) (es : Written) (s : Layers) (l : IsLayered g next es) (view : ◌≡◌ {A = Layers} (record { base = g; graph = seen g next es }) s) (q id : ℤ) (same : q ≡ id) where
   at_id : (r : Option StoredNode) → r ≡ over (written_at q es) (find q g.nodes) → r ≡ find id s.graph.nodes

@@ -4,8 +4,7 @@ use Rattle.std.specs.BTreeMap.{insert_entry}
 use Rattle.std.proofs.lemmas.Int.{ints}
 use Rattle.std.proofs.lemmas.List.Elements.{All-weaker}
 use Rattle.ncc_store.specs.declared.node.StoredNode.{StoredNode}
-use Rattle.ncc_store.specs.Graph.{Graph, find, replace, without, last_id}
-use Rattle.ncc_store.specs.Props.{IsKeyed}
+use Rattle.ncc_store.specs.Graph.{Graph, IsNode, find, replace, without, last_id}
 use Rattle.ncc_store.specs.Exec.{made}
 use Rattle.ncc_store.specs.declared.fault.RunFault.TheVariants as fault
 use Rattle.ncc_store.specs.Layers.{Layers, Written, written_at, seen_below, seen, IsWritten, IsLayered}
@@ -79,9 +78,9 @@ layered_next g next es l lt = record {
   written = All-weaker (IsWritten g next) (IsWritten g (next +ℤ pos 1)) (λ e h. (h.0, let a : e.0 <ℤ next = h.1 in omega (arith, ints), h.2, h.3)) es l.written;
 }
 
-pub layered_made : (g : Graph) (next : ℤ) (es new : Written) (m : StoredNode) → IsLayered g next es → next <ℤ last_id → m.id ≡ next → IsKeyed m.props → new ≡ insert_entry int_cmp es next (Some m) → Keyed new → IsLayered g (next +ℤ pos 1) new
+pub layered_made : (g : Graph) (next : ℤ) (es new : Written) (m : StoredNode) → IsLayered g next es → next <ℤ last_id → m.id ≡ next → IsNode m → new ≡ insert_entry int_cmp es next (Some m) → Keyed new → IsLayered g (next +ℤ pos 1) new
 layered_made g next es new m l lt e keyed ins s =
-    let a : pos 0 ≤ℤ g.next = l.below.low in
+    let a : pos 0 ≤ℤ g.next = l.below.placed.low in
     let b : g.next ≤ℤ next = l.low in
     layered_more g (next +ℤ pos 1) es new next (Some m) (layered_next g next es l lt) (omega (arith, ints), omega (arith, ints), λ c. absurd (omega (arith, ints)), (e, keyed)) ins s
 
@@ -113,12 +112,12 @@ starts g n es e f = ap₂ (λ (i : ℤ) (xs : Written). record { base = g; graph
 -- ---- each write as the code makes it: at q, which is the id
 
 module _ (g : Graph) (next : ℤ) (es new : Written) (s : Layers) (l : IsLayered g next es) (view : ◌≡◌ {A = Layers} (record { base = g; graph = seen g next es }) s) where
-  pub replaces_stays : (q : ℤ) (m : StoredNode) → q ≡ m.id → IsSome (find m.id s.graph.nodes) → IsKeyed m.props → new ≡ insert_entry int_cmp es q (Some m) → Keyed new → IsLayered g next new
+  pub replaces_stays : (q : ℤ) (m : StoredNode) → q ≡ m.id → IsSome (find m.id s.graph.nodes) → IsNode m → new ≡ insert_entry int_cmp es q (Some m) → Keyed new → IsLayered g next new
   replaces_stays q m e there keyed ins k =
       let p = place_of g next es l m.id (subst (λ (x : Layers). IsSome (find m.id x.graph.nodes)) (sym view) there) in
       layered_more g next es new m.id (Some m) l (p.0, p.1, p.2, (refl, keyed)) (subst (λ i. new ≡ insert_entry int_cmp es i (Some m)) e ins) k
 
-  pub replaces : (q : ℤ) (m : StoredNode) → q ≡ m.id → IsSome (find m.id s.graph.nodes) → IsKeyed m.props → new ≡ insert_entry int_cmp es q (Some m) → Keyed new → Wrote es new q (Some m)
+  pub replaces : (q : ℤ) (m : StoredNode) → q ≡ m.id → IsSome (find m.id s.graph.nodes) → IsNode m → new ≡ insert_entry int_cmp es q (Some m) → Keyed new → Wrote es new q (Some m)
       → ◌≡◌ {A = Layers} (record { base = g; graph = seen g next new }) (record s { graph = record s.graph { nodes = replace m s.graph.nodes } })
   replaces q m e there keyed ins k up =
       let nodes : (seen g next new).nodes ≡ replace m (seen g next es).nodes = seen_replaced g next es new m l (replaces_stays q m e there keyed ins k) (subst (λ i. Wrote es new i (Some m)) e up) (subst (λ (x : Layers). IsSome (find m.id x.graph.nodes)) (sym view) there) in
@@ -135,11 +134,11 @@ module _ (g : Graph) (next : ℤ) (es new : Written) (s : Layers) (l : IsLayered
       let nodes : (seen g next new).nodes ≡ without id (seen g next es).nodes = seen_removed g next es new id l (removes_stays q id e there ins k) (subst (λ i. Wrote es new i None) e up) in
       ap (λ (ns : List StoredNode). record { base = g; graph = record { next = next; nodes = ns } }) nodes ∙ ap (λ (x : Layers). record x { graph = record x.graph { nodes = without id x.graph.nodes } }) view
 
-  pub makes_stays : (q n : ℤ) (m : StoredNode) → q ≡ next → n ≡ next +ℤ pos 1 → next <ℤ last_id → m.id ≡ next → IsKeyed m.props → new ≡ insert_entry int_cmp es q (Some m) → Keyed new → IsLayered g n new
+  pub makes_stays : (q n : ℤ) (m : StoredNode) → q ≡ next → n ≡ next +ℤ pos 1 → next <ℤ last_id → m.id ≡ next → IsNode m → new ≡ insert_entry int_cmp es q (Some m) → Keyed new → IsLayered g n new
   makes_stays q n m e f lt same keyed ins k =
       subst (λ i. IsLayered g i new) (sym f) (layered_made g next es new m l lt same keyed (subst (λ i. new ≡ insert_entry int_cmp es i (Some m)) e ins) k)
 
-  pub makes : (q n : ℤ) (m : StoredNode) → q ≡ next → n ≡ next +ℤ pos 1 → next <ℤ last_id → m.id ≡ next → IsKeyed m.props → new ≡ insert_entry int_cmp es q (Some m) → Keyed new → Wrote es new q (Some m)
+  pub makes : (q n : ℤ) (m : StoredNode) → q ≡ next → n ≡ next +ℤ pos 1 → next <ℤ last_id → m.id ≡ next → IsNode m → new ≡ insert_entry int_cmp es q (Some m) → Keyed new → Wrote es new q (Some m)
       → made m.label m.props s.graph ≡ Ok (seen g n new, q ∷ [])
   makes q n m e f lt same keyed ins k up =
       let nodes : (seen g (next +ℤ pos 1) new).nodes ≡ (seen g next es).nodes ++ m ∷ [] = seen_made g next es new m l (layered_made g next es new m l lt same keyed (subst (λ i. new ≡ insert_entry int_cmp es i (Some m)) e ins) k) same (subst (λ i. Wrote es new i (Some m)) e up) in

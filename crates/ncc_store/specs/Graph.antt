@@ -1,10 +1,13 @@
--- A store as a plain list: the next id, and the nodes by ascending id.
-use Rattle.std.specs.Prelude.{ℤ, pos, ◌≤ℤ◌, ◌<ℤ◌, ◌^◌, not, if◌then◌else◌, List, [], ◌∷◌, map, Option, Some, None}
-use Rattle.std.specs.List.{All, filter}
+-- A store as a plain list: the next id, and the nodes by ascending id. Cypher's property graph, of nodes with one label each
+-- and without relationships.
+use Rattle.std.specs.Prelude.{ℤ, pos, ◌≤ℤ◌, ◌<ℤ◌, ◌^◌, not, if◌then◌else◌, IsTrue, List, [], ◌∷◌, map, Option, Some, None}
+use Rattle.std.specs.List.{All, filter, list_all}
 use Rattle.std.specs.List.Sorted.{IsStrictlySortedBy}
 use Rattle.std.specs.Ordering.{int_cmp, int_eq}
 use Rattle.ncc_store.specs.declared.node.StoredNode.{StoredNode}
-use Rattle.ncc_store.specs.Props.{IsKeyed}
+use Rattle.ncc_pack.specs.declared.value.Value.TheVariants as v
+use Rattle.ncc_pack.specs.Fits.{fits}
+use Rattle.ncc_store.specs.Props.{IsKeyed, ArePlain, pair_fits}
 
 pub record Graph : Type 0 where
   pub next : ℤ
@@ -39,10 +42,21 @@ ids ns = map (λ n. n.id) ns
 abbrev pub last_id : ℤ
 last_id = pos (2 ^ 62)
 
--- A store that steps can make: ids ascend and are below the next one, and each node has its keys in order.
-pub record IsGraph (g : Graph) : Type 0 where
+-- A node of a store: its keys ascend, each property is a truth value, an integer or a text, never null, and all of it fits.
+pub record IsNode (n : StoredNode) : Type 0 where
+  pub keyed : IsKeyed n.props
+  pub plain : ArePlain n.props
+  pub pairs : IsTrue (list_all pair_fits n.props)
+  pub label : IsTrue (fits (v.Text n.label))
+
+-- ids ascend from 0 on, and are below the next one
+pub record IsPlaced (g : Graph) : Type 0 where
   pub low : pos 0 ≤ℤ g.next
   pub high : g.next ≤ℤ last_id
   pub ascending : IsStrictlySortedBy int_cmp (ids g.nodes)
   pub below : All (λ n. (pos 0 ≤ℤ n.id) × (n.id <ℤ g.next)) g.nodes
-  pub keyed : All (λ n. IsKeyed n.props) g.nodes
+
+-- what each store is
+pub record IsGraph (g : Graph) : Type 0 where
+  pub placed : IsPlaced g
+  pub nodes : All IsNode g.nodes

@@ -4,10 +4,9 @@ use Rattle.std.specs.List.{All}
 use Rattle.std.specs.List.Sorted.{IsStrictlySortedBy}
 use Rattle.std.specs.Ordering.{int_cmp}
 use Rattle.std.specs.Map.{lookup, keys_of}
-use Rattle.std.specs.BTreeMap.{is_at}
+use Rattle.std.specs.BTreeMap.{insert_entry, is_at}
 use Rattle.ncc_store.specs.declared.node.StoredNode.{StoredNode}
-use Rattle.ncc_store.specs.Graph.{Graph, IsGraph, find, last_id}
-use Rattle.ncc_store.specs.Props.{IsKeyed}
+use Rattle.ncc_store.specs.Graph.{Graph, IsGraph, IsNode, find, last_id}
 
 -- the store below, and the store that is seen
 pub record Layers : Type 0 where
@@ -41,10 +40,19 @@ fresh next (e ∷ es) = if int_lt e.0 next then fresh next es else one e.1 ++ fr
 abbrev pub seen : Graph → ℤ → Written → Graph
 seen g next es = record { next = next; nodes = seen_below es g.nodes ++ fresh g.next es }
 
--- a node stands at its own id, with its keys in order
+-- what is written once these nodes are written one by one, and then once nothing stands at these ids
+abbrev pub with_put : Written → List StoredNode → Written
+with_put es [] = es
+with_put es (n ∷ ns) = with_put (insert_entry int_cmp es n.id (Some n)) ns
+
+abbrev pub with_gone : Written → List ℤ → Written
+with_gone es [] = es
+with_gone es (id ∷ is) = with_gone (insert_entry int_cmp es id None) is
+
+-- a node of a store stands at its own id
 abbrev pub IsNodeAt : ℤ → Option StoredNode → Type 0
 IsNodeAt id None = Unit {0}
-IsNodeAt id (Some n) = (n.id ≡ id) × IsKeyed n.props
+IsNodeAt id (Some n) = (n.id ≡ id) × IsNode n
 
 -- what is written stands at an id below the next one: at that of a node of the store below, or at one that was given since
 abbrev pub IsWritten : Graph → ℤ → ℤ × Option StoredNode → Type 0

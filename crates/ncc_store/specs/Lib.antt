@@ -6,6 +6,7 @@ pub mod Rows
 pub mod Exec
 pub mod Delta
 pub mod Answers
+pub mod Laws
 pub mod Layers
 pub mod Views
 pub mod Bound

@@ -1,5 +1,6 @@
--- The rows that RETURN gives, and the limits on them.
+-- The rows that Cypher's RETURN gives, and the limits on them.
 use Rattle.std.specs.Prelude.{ℕ, ◌+◌, nat_le, pos, Bool, ◌&&◌, if◌then◌else◌, List, [], ◌∷◌, length, Option, Some, None, Ok, Err}
+use Rattle.std.specs.List.{list_all}
 use Rattle.ncc_pack.specs.declared.value.Value.{Value}
 use Rattle.ncc_pack.specs.declared.value.Value.TheVariants as v
 use Rattle.ncc_pack.specs.Short.{short}
@@ -51,8 +52,12 @@ items params n (i ∷ is) = item params n i >>= λ x. items params n is >>= λ x
 abbrev pub row_len : List Value → ℕ
 row_len xs = length (short (v.List xs))
 
+-- a row that fits and is short enough
+abbrev pub row_keeps : List Value → Bool
+row_keeps xs = fits (v.List xs) && nat_le (row_len xs) max_row
+
 abbrev pub short_enough : List Value → Answer (List Value)
-short_enough xs = if fits (v.List xs) && nat_le (row_len xs) max_row then Ok xs else Err f.TooLong
+short_enough xs = if row_keeps xs then Ok xs else Err f.TooLong
 
 abbrev pub row : Props → List Item → Row → Answer (List Value)
 row params is n = items params n is >>= short_enough
@@ -61,11 +66,21 @@ row params is n = items params n is >>= short_enough
 abbrev pub few : ℕ → ℕ → Bool
 few count bytes = nat_le count max_rows && nat_le bytes max_bytes
 
+-- the bytes of rows, each spelled as a list
+abbrev pub rows_len : List (List Value) → ℕ
+rows_len [] = 0
+rows_len (r ∷ rs) = row_len r + rows_len rs
+
+-- the rows of one step: each fits and is short enough, and they are few enough
+abbrev pub rows_keep : List (List Value) → Bool
+rows_keep rs = list_all row_keeps rs && few (length rs) (rows_len rs)
+
 -- the rows one by one, behind so many with so many bytes
 unfoldable pub rows : Props → List Item → ℕ → ℕ → List Row → Answer (List (List Value))
 rows params is count bytes [] = Ok []
 rows params is count bytes (n ∷ ns) = row params is n >>= λ r.
-    if few (count + 1) (bytes + row_len r) then (rows params is (count + 1) (bytes + row_len r) ns >>= λ rs. Ok (r ∷ rs)) else Err f.TooManyRows
+    if few (count + 1) (bytes + row_len r) then (rows params is (count + 1) (bytes + row_len r) ns >>= λ rs. Ok (r ∷ rs))
+    else Err f.TooManyRows
 
 -- what a statement returns over its rows: nothing without RETURN, one row with their number for `count`
 abbrev pub returned : Props → Tail → List Row → Answer (List (List Value))

@@ -33,12 +33,12 @@ pub enum RunFault {
 }
 
 /// Why a run gave no rows.
-#[derive(Clone, Copy, Debug, Error)]
+#[derive(Clone, Copy, Debug, PartialEq, Eq, Error)]
 pub enum RunError {
     /// The steps met this fault. Nothing of the run stays.
     #[error("{0}")]
     Fault(RunFault),
-    /// Want of memory.
+    /// Out of memory.
     #[error("out of memory")]
     Memory,
 }

@@ -4,15 +4,15 @@ ghost use Rattle.std.specs.Prelude.{◌≡◌, ◌∷◌, [], ◌++◌, IfOk, If
 ghost use Rattle.std.specs.List.{All, filter};
 ghost use Rattle.std.specs.Option.{option_copied};
 ghost use Rattle.ncc_store.specs.Answers.{Gives};
-ghost use Rattle.ncc_store.specs.Delta.{IsOver, applied};
+ghost use Rattle.ncc_store.specs.Delta.{IsLeast, IsOver, applied};
 ghost use Rattle.ncc_store.specs.Exec.{has_label, has_value, made, matching, taken};
-ghost use Rattle.ncc_store.specs.Graph.{find, ids, replace, without};
-ghost use Rattle.ncc_store.specs.Layers.{IsNodeAt, fresh, one, seen_below, seen_one, written_at};
+ghost use Rattle.ncc_store.specs.Graph.{IsNode, find, ids, replace, without};
+ghost use Rattle.ncc_store.specs.Layers.{IsNodeAt, fresh, one, seen_below, seen_one, with_gone, with_put, written_at};
 ghost use Rattle.ncc_store.specs.Pattern.{wanted_of};
-ghost use Rattle.ncc_store.specs.Props.{IsKeyed};
+ghost use Rattle.ncc_store.specs.Props.{IsKeyed, ArePlain};
 
 use crate::fault::{RunError, RunFault};
-use crate::node::StoredNode;
+use crate::node::{NodeList, StoredNode, kept};
 use crate::props::value_at;
 use crate::ran::Delta;
 use crate::scalar::{Scalar, equals};
@@ -61,7 +61,7 @@ fn has_label(label: Option<&str>, node: &StoredNode) -> bool
 
 /// Says whether a node has the value that a pattern asks for.
 fn has_value(wanted: &Option<(&str, Scalar)>, node: &StoredNode) -> bool
-    requires { IsKeyed node.now.props }
+    requires { IsNode node.now }
     ensures { result ≡ has_value (wanted_of wanted.now) node.now }
 {
     match wanted {
@@ -75,7 +75,7 @@ fn has_value(wanted: &Option<(&str, Scalar)>, node: &StoredNode) -> bool
 
 /// Says whether a pattern takes a node.
 fn taken(label: Option<&str>, wanted: &Option<(&str, Scalar)>, node: &StoredNode) -> bool
-    requires { IsKeyed node.now.props }
+    requires { IsNode node.now }
     ensures { result ≡ taken (option_copied label.entry) (wanted_of wanted.now) node.now }
 {
     has_label(label, node) && has_value(wanted, node)
@@ -88,8 +88,9 @@ fn add_taken(
     wanted: &Option<(&str, Scalar)>,
     node: Option<&StoredNode>,
 ) -> Result<(), Memory>
-    requires { IfSome node (λ n. IsKeyed n.now.props) }
-    ensures { OnOk result (found.new.items ≡ found.old.items ++ ids (filter (taken (option_copied label.entry) (wanted_of wanted.now)) (one (option_copied node.entry)))) }
+    requires { IfSome node (λ n. IsNode n.now) }
+    ensures { OnOk result (found.new.items ≡ found.old.items
+        ++ ids (filter (taken (option_copied label.entry) (wanted_of wanted.now)) (one (option_copied node.entry)))) }
 {
     if let Some(node) = node {
         if taken(label, wanted, node) {
@@ -104,10 +105,10 @@ fn seen<'a>(
     node: &'a StoredNode,
     written: &'a BTreeMap<i64, Option<StoredNode>>,
 ) -> Option<&'a StoredNode>
-    requires node { IsKeyed node.now.props }
+    requires node { IsNode node.now }
     requires written { All (λ e. IsNodeAt e.0 e.1) written.now.entries }
     ensures seen { one (option_copied result) ≡ seen_one node.now (written_at node.now.id written.now.entries) }
-    ensures keyed { IfSome result (λ n. IsKeyed n.now.props) }
+    ensures node { IfSome result (λ n. IsNode n.now) }
 {
     match written.get(&node.id) {
         None => Some(node),
@@ -123,9 +124,10 @@ fn add_below(
     nodes: &[StoredNode],
     written: &BTreeMap<i64, Option<StoredNode>>,
 ) -> Result<(), Memory>
-    requires nodes { All (λ n. IsKeyed n.props) nodes.now }
+    requires nodes { All IsNode nodes.now }
     requires written { All (λ e. IsNodeAt e.0 e.1) written.now.entries }
-    ensures { OnOk result (found.new.items ≡ found.old.items ++ ids (filter (taken (option_copied label.entry) (wanted_of wanted.now)) (seen_below written.now.entries nodes.now))) }
+    ensures { OnOk result (found.new.items ≡ found.old.items
+        ++ ids (filter (taken (option_copied label.entry) (wanted_of wanted.now)) (seen_below written.now.entries nodes.now))) }
 {
     for below in nodes {
         add_taken(found, label, wanted, seen(below, written))?;
@@ -142,10 +144,31 @@ fn add_made(
     written: &BTreeMap<i64, Option<StoredNode>>,
 ) -> Result<(), Memory>
     requires { All (λ e. IsNodeAt e.0 e.1) written.now.entries }
-    ensures { OnOk result (found.new.items ≡ found.old.items ++ ids (filter (taken (option_copied label.entry) (wanted_of wanted.now)) (fresh next written.now.entries))) }
+    ensures { OnOk result (found.new.items ≡ found.old.items
+        ++ ids (filter (taken (option_copied label.entry) (wanted_of wanted.now)) (fresh next written.now.entries))) }
 {
     for (_, made) in written.range(next..) {
         add_taken(found, label, wanted, made.as_ref())?;
+    }
+    Ok(())
+}
+
+/// Writes nodes at their ids.
+fn write_put(written: &mut BTreeMap<i64, Option<StoredNode>>, put: NodeList) -> Result<(), Memory>
+    ensures { OnOk result (written.new.entries ≡ with_put written.old.entries put) }
+{
+    for node in put.into_vec() {
+        drop(written.insert(node.id, Some(node))?);
+    }
+    Ok(())
+}
+
+/// Writes that nothing stands at these ids.
+fn write_gone(written: &mut BTreeMap<i64, Option<StoredNode>>, gone: &[i64]) -> Result<(), Memory>
+    ensures { OnOk result (written.new.entries ≡ with_gone written.old.entries gone.now) }
+{
+    for id in gone {
+        written.insert(*id, None)?;
     }
     Ok(())
 }
@@ -162,10 +185,32 @@ impl<'s> Overlay<'s> {
         }
     }
 
+    /// A store over which an earlier delta is written. Its nodes are moved.
+    pub(crate) fn over(
+        alloc: Global,
+        base: &'s Store,
+        earlier: Delta,
+    ) -> Result<Overlay<'s>, Memory>
+        requires { IsOver base.now earlier }
+        ensures { IfOk result (λ o. o ≡ record { base = base.now; graph = applied earlier base.now }) }
+    {
+        let Delta { next, put, gone } = earlier;
+        let low = base.next();
+        prove!(low <= next);
+        let mut written = BTreeMap::new(alloc);
+        write_put(&mut written, put)?;
+        write_gone(&mut written, gone.as_slice())?;
+        Ok(Overlay {
+            base,
+            next,
+            written,
+        })
+    }
+
     /// The node of an id.
     pub(crate) fn node(&self, id: i64) -> Option<&StoredNode>
         ensures found { option_copied result ≡ find id self.now.graph.nodes }
-        ensures keyed { IfSome result (λ n. IsKeyed n.now.props) }
+        ensures node { IfSome result (λ n. IsNode n.now) }
     {
         match self.written.get(&id) {
             None => self.base.node(id),
@@ -191,8 +236,9 @@ impl<'s> Overlay<'s> {
     /// Puts a node in the place of the one that has its id.
     pub(crate) fn replace(&mut self, node: StoredNode) -> Result<(), Memory>
         requires there { IsSome (find node.id self.old.graph.nodes) }
-        requires keyed { IsKeyed node.props }
-        ensures replaced { OnOk result (self.new ≡ record self.old { graph = record self.old.graph { nodes = replace node self.old.graph.nodes } }) }
+        requires node { IsNode node }
+        ensures replaced { OnOk result (self.new ≡ record self.old
+            { graph = record self.old.graph { nodes = replace node self.old.graph.nodes } }) }
         ensures base { self.new.base ≡ self.old.base }
     {
         self.written.insert(node.id, Some(node))?;
@@ -202,7 +248,8 @@ impl<'s> Overlay<'s> {
     /// Removes the node of an id.
     pub(crate) fn remove(&mut self, id: i64) -> Result<(), Memory>
         requires there { IsSome (find id self.old.graph.nodes) }
-        ensures removed { OnOk result (self.new ≡ record self.old { graph = record self.old.graph { nodes = without id self.old.graph.nodes } }) }
+        ensures removed { OnOk result (self.new ≡ record self.old
+            { graph = record self.old.graph { nodes = without id self.old.graph.nodes } }) }
         ensures base { self.new.base ≡ self.old.base }
     {
         self.written.insert(id, None)?;
@@ -211,7 +258,8 @@ impl<'s> Overlay<'s> {
 
     /// Makes a node, and answers its id.
     pub(crate) fn make(&mut self, label: Text, props: Dict) -> Result<i64, RunError>
-        requires { IsKeyed props }
+        requires keyed { IsKeyed props }
+        requires plain { ArePlain props }
         ensures made { Gives (λ id. (self.new.graph, id ∷ [])) result (made label props self.old.graph) }
         ensures base { self.new.base ≡ self.old.base }
     {
@@ -219,7 +267,7 @@ impl<'s> Overlay<'s> {
         if id >= LAST_ID {
             return Err(RunError::Fault(RunFault::IdsSpent));
         }
-        let node = StoredNode { id, label, props };
+        let node = kept(StoredNode { id, label, props })?;
         self.written.insert(id, Some(node))?;
         self.next = id + 1;
         Ok(id)
@@ -229,6 +277,7 @@ impl<'s> Overlay<'s> {
     pub(crate) fn into_delta(self, alloc: Global) -> Result<Delta, Memory>
         ensures applied { IfOk result (λ d. applied d self.entry.base ≡ self.entry.graph) }
         ensures over { IfOk result (IsOver self.entry.base) }
+        ensures least { IfOk result (IsLeast self.entry.base) }
     {
         let Overlay {
             base,
@@ -240,7 +289,11 @@ impl<'s> Overlay<'s> {
         let mut gone = Sequence::new(alloc);
         for (id, node) in written {
             match node {
-                Some(node) => put.push(node)?,
+                Some(node) => {
+                    if !base.has(&node) {
+                        put.push(node)?;
+                    }
+                }
                 None => {
                     if id < below {
                         gone.push(id)?;

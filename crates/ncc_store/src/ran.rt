@@ -2,11 +2,8 @@
 
 ghost use Rattle.std.specs.Prelude.{◌≡◌, IfOk};
 
-use crate::node::{Ids, NodeList, copy_ids, copy_nodes};
-use ncc_pack::{Memory, Sequence, Values, copy_values};
-
-/// The rows of a step.
-pub type Rows = Sequence<Values>;
+use crate::node::{Ids, NodeList, copy_ids};
+use ncc_pack::{Memory, Rows, Sequence};
 
 /// One list of rows for each step.
 pub type RowLists = Sequence<Rows>;
@@ -31,36 +28,14 @@ pub struct Ran {
     pub delta: Delta,
 }
 
-/// Equal rows, on the same allocators.
-pub fn copy_rows(rows: &Rows) -> Result<Rows, Memory>
-    ensures { IfOk result (λ copy. copy ≡ rows.now) }
-{
-    let mut copy = Sequence::new(rows.allocator());
-    for row in rows.as_slice() {
-        copy.push(copy_values(row)?)?;
-    }
-    Ok(copy)
-}
-
-/// Equal lists of rows, on the same allocators.
-pub fn copy_row_lists(lists: &RowLists) -> Result<RowLists, Memory>
-    ensures { IfOk result (λ copy. copy ≡ lists.now) }
-{
-    let mut copy = Sequence::new(lists.allocator());
-    for rows in lists.as_slice() {
-        copy.push(copy_rows(rows)?)?;
-    }
-    Ok(copy)
-}
-
 impl Delta {
     /// An equal value, on the same allocators.
     pub fn copy(&self) -> Result<Delta, Memory>
-        ensures { IfOk result (λ copy. copy ≡ self.now) }
+        ensures same { IfOk result (λ copy. copy ≡ self.now) }
     {
         Ok(Delta {
             next: self.next,
-            put: copy_nodes(&self.put)?,
+            put: self.put.copy()?,
             gone: copy_ids(&self.gone)?,
         })
     }
@@ -69,10 +44,10 @@ impl Delta {
 impl Ran {
     /// An equal value, on the same allocators.
     pub fn copy(&self) -> Result<Ran, Memory>
-        ensures { IfOk result (λ copy. copy ≡ self.now) }
+        ensures same { IfOk result (λ copy. copy ≡ self.now) }
     {
         Ok(Ran {
-            rows: copy_row_lists(&self.rows)?,
+            rows: self.rows.copy()?,
             delta: self.delta.copy()?,
         })
     }

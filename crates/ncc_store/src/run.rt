@@ -4,31 +4,33 @@ ghost use Rattle.std.specs.Prelude.{◌≡◌, ◌∷◌, [], Ok, Some, None, If
 ghost use Rattle.std.specs.List.{All};
 ghost use Rattle.std.specs.Option.{option_copied};
 ghost use Rattle.ncc_store.specs.Answers.{Gives};
-ghost use Rattle.ncc_store.specs.Bound.{IsKeyedRow};
-ghost use Rattle.ncc_store.specs.Delta.{IsOver, applied};
-ghost use Rattle.ncc_store.specs.Exec.{renewed, change, deleted, exec, head, nodes_of, pairs, set, set_one, step, wanted, merged};
+ghost use Rattle.ncc_store.specs.Bound.{IsRow};
+ghost use Rattle.ncc_store.specs.Delta.{IsLeast, IsOver, applied};
+ghost use Rattle.ncc_store.specs.Laws.{GoesOn};
+ghost use Rattle.ncc_store.specs.Exec.{call_of, node_set, change, deleted, exec, head, nodes_of, pairs, set, set_one, step, wanted, merged};
 ghost use Rattle.ncc_store.specs.Pattern.{wanted_of};
-ghost use Rattle.ncc_store.specs.Graph.{find, without};
-ghost use Rattle.ncc_store.specs.Props.{IsKeyed};
+ghost use Rattle.ncc_store.specs.Graph.{IsNode, find, without};
+ghost use Rattle.ncc_store.specs.Props.{IsKeyed, ArePlain, put};
 
 use crate::fault::{RunError, RunFault};
-use crate::node::StoredNode;
+use crate::node::{StoredNode, kept};
 use crate::overlay::Overlay;
 use crate::props::{Draft, Params};
-use crate::ran::{Ran, Rows};
+use crate::ran::{Delta, Ran};
 use crate::rows::returned;
 use crate::scalar::Scalar;
 use crate::step::{Step, Steps};
 use crate::store::Store;
 use crate::sum::{Bound, sum};
 use ncc_cypher::{Change, Head, Pair, Pairs};
-use ncc_pack::{Dict, Memory, Sequence, Text};
+use ncc_pack::{Dict, Memory, Rows, Sequence, Text};
 use std::alloc::Global;
 
 /// The properties that pairs give, where no name is bound.
 fn pairs(alloc: Global, params: &Params, list: &[Pair]) -> Result<Dict, RunError>
     ensures pairs { Gives (λ ps. ps) result (pairs params.now [] list.now) }
     ensures keyed { IfOk result IsKeyed }
+    ensures plain { IfOk result ArePlain }
 {
     let mut draft = Draft::new(alloc);
     for pair in list {
@@ -36,6 +38,17 @@ fn pairs(alloc: Global, params: &Params, list: &[Pair]) -> Result<Dict, RunError
         draft.put(pair.key.as_str(), value)?;
     }
     Ok(draft.into_dict(alloc)?)
+}
+
+/// The properties of a node with one of this key, or with none for null.
+fn one_prop(alloc: Global, key: &str, value: Scalar) -> Result<Dict, Memory>
+    ensures props { IfOk result (λ ps. ps ≡ put [] key.now value) }
+    ensures keyed { IfOk result IsKeyed }
+    ensures plain { IfOk result ArePlain }
+{
+    let mut draft = Draft::new(alloc);
+    draft.put(key, value)?;
+    draft.into_dict(alloc)
 }
 
 /// The value that the pair of a MATCH asks for.
@@ -73,13 +86,14 @@ fn merge(
     if !ids.is_empty() {
         return Ok(ids);
     }
-    let mut draft = Draft::new(alloc);
-    if let Some((key, value)) = wanted {
-        draft.put(key, value)?;
+    match wanted {
+        None => Ok(ids),
+        Some((key, value)) => {
+            let props = one_prop(alloc, key, value)?;
+            let id = overlay.make(label.copy()?, props)?;
+            Ok(Vec::from_slice(alloc, &[id])?)
+        }
     }
-    let props = draft.into_dict(alloc)?;
-    let id = overlay.make(label.copy()?, props)?;
-    Ok(Vec::from_slice(alloc, &[id])?)
 }
 
 /// The head of a statement: the ids of its rows.
@@ -121,20 +135,23 @@ fn changed(
     changes: &[Pair],
     node: &StoredNode,
 ) -> Result<StoredNode, RunError>
-    requires { IsKeyed node.now.props }
-    ensures changed { Gives (λ n. n) result (renewed params.now changes.now node.now) }
-    ensures keyed { IfOk result (λ n. IsKeyed n.props × (n.id ≡ node.now.id)) }
+    requires { IsNode node.now }
+    ensures changed { Gives (λ n. n) result (node_set params.now changes.now node.now) }
+    ensures node { IfOk result IsNode }
+    ensures id { IfOk result (λ n. n.id ≡ node.now.id) }
 {
     let mut draft = Draft::of(alloc, &node.props)?;
     for change in changes {
         let value = sum(params, &Bound::Draft(&draft), &change.value)?;
         draft.put(change.key.as_str(), value)?;
     }
-    Ok(StoredNode {
+    let label = node.label.copy()?;
+    let props = draft.into_dict(alloc)?;
+    Ok(kept(StoredNode {
         id: node.id,
-        label: node.label.copy()?,
-        props: draft.into_dict(alloc)?,
-    })
+        label,
+        props,
+    })?)
 }
 
 /// SET on one row.
@@ -145,7 +162,8 @@ fn set_one(
     changes: &[Pair],
     id: i64,
 ) -> Result<(), RunError>
-    ensures set { Gives (λ _. overlay.new.graph) result (set_one params.now changes.now overlay.old.graph (find id overlay.old.graph.nodes)) }
+    ensures set { Gives (λ _. overlay.new.graph) result (set_one params.now changes.now overlay.old.graph
+        (find id overlay.old.graph.nodes)) }
     ensures base { overlay.new.base ≡ overlay.old.base }
 {
     let node = match overlay.node(id) {
@@ -220,7 +238,7 @@ fn nodes_at<'o>(
     ids: &[i64],
 ) -> Result<Vec<Option<&'o StoredNode>>, Memory>
     ensures nodes { IfOk result (λ ns. map option_copied ns.items ≡ map (λ id. find id overlay.now.graph.nodes) ids.now) }
-    ensures keyed { IfOk result (λ ns. All (λ n. IsKeyedRow (option_copied n)) ns.items) }
+    ensures keyed { IfOk result (λ ns. All (λ n. IsRow (option_copied n)) ns.items) }
 {
     let mut nodes = Vec::new(alloc);
     for id in ids {
@@ -237,7 +255,7 @@ fn nodes_of<'o>(
     ids: &[i64],
 ) -> Result<Vec<Option<&'o StoredNode>>, Memory>
     ensures nodes { IfOk result (λ ns. map option_copied ns.items ≡ nodes_of begin.now overlay.now.graph ids.now) }
-    ensures keyed { IfOk result (λ ns. All (λ n. IsKeyedRow (option_copied n)) ns.items) }
+    ensures keyed { IfOk result (λ ns. All (λ n. IsRow (option_copied n)) ns.items) }
 {
     if let Head::Alone = begin {
         let mut nodes = Vec::new(alloc);
@@ -249,7 +267,7 @@ fn nodes_of<'o>(
 
 /// One step: its rows.
 fn step(alloc: Global, overlay: &mut Overlay, next: &Step) -> Result<Rows, RunError>
-    ensures step { Gives (λ rows. (rows, overlay.new.graph)) result (step overlay.old.graph next.now) }
+    ensures step { Gives (λ rows. (rows, overlay.new.graph)) result (step overlay.old.graph (call_of next.now)) }
     ensures base { overlay.new.base ≡ overlay.old.base }
 {
     let params = Params::of(alloc, &next.params)?;
@@ -260,23 +278,61 @@ fn step(alloc: Global, overlay: &mut Overlay, next: &Step) -> Result<Rows, RunEr
     returned(alloc, &params, &statement.tail, nodes.as_slice())
 }
 
+/// Runs steps in order over what is seen.
+fn run_over(alloc: Global, begin: Overlay, steps: &Steps) -> Result<Ran, RunError>
+    ensures exact { Gives (λ r. record { rows = r.rows; graph = applied r.delta begin.entry.base })
+        result (exec begin.entry.graph (map call_of steps.now)) }
+    ensures over { IfOk result (λ r. IsOver begin.entry.base r.delta) }
+    ensures least { IfOk result (λ r. IsLeast begin.entry.base r.delta) }
+{
+    let mut overlay = begin;
+    let mut rows = Sequence::new(alloc);
+    for next in steps.as_slice() {
+        rows.push(step(alloc, &mut overlay, next)?)?;
+    }
+    let delta = overlay.into_delta(alloc)?;
+    Ok(Ran { rows, delta })
+}
+
 impl<'s> Overlay<'s> {
     /// Runs steps in order over a store and their own earlier writes. It gives one list of rows for each step, and what
     /// the steps changed; the store stays as it is. The first fault ends the run: each sum from left to right; in a step
     /// the head's pairs, then `NullMerge`, then `IdsSpent`, then the changes row by row, then the items row by row. A
     /// step that touches so many nodes copies so many.
     pub fn run(alloc: Global, store: &'s Store, steps: &Steps) -> Result<Ran, RunError>
-        // The rows and the store after the last step, or the first fault, are those of the steps over the plain list.
-        ensures exact { Gives (λ r. record { rows = r.rows; graph = applied r.delta store.now }) result (exec store.now steps.now) }
+        // The rows and the store after the last step, or the first fault, are those of the calls over the plain list.
+        ensures exact { Gives (λ r. record { rows = r.rows; graph = applied r.delta store.now })
+            result (exec store.now (map call_of steps.now)) }
         // The delta can be put into an equal store.
         ensures over { IfOk result (λ r. IsOver store.now r.delta) }
+        // It is the least: no node in it is as the store has it, and no id that the steps made and removed.
+        ensures least { IfOk result (λ r. IsLeast store.now r.delta) }
     {
-        let mut overlay = Overlay::new(alloc, store);
-        let mut rows = Sequence::new(alloc);
-        for next in steps.as_slice() {
-            rows.push(step(alloc, &mut overlay, next)?)?;
-        }
-        let delta = overlay.into_delta(alloc)?;
-        Ok(Ran { rows, delta })
+        run_over(alloc, Overlay::new(alloc, store), steps)
+    }
+
+    /// Goes on from an earlier run's delta over an equal store, whose nodes are moved: it runs these steps over the store
+    /// and the earlier writes, and does not run the earlier steps again. The rows are those of these steps alone, and the
+    /// delta is that of all. An earlier delta of so many nodes takes a time that grows with their number.
+    pub fn go_on(
+        alloc: Global,
+        store: &'s Store,
+        earlier: Delta,
+        steps: &Steps,
+    ) -> Result<Ran, RunError>
+        requires over { IsOver store.now earlier }
+        // The rows and the store after the last step, or the first fault, are those of the calls over the store that the
+        // earlier delta leaves.
+        ensures exact { Gives (λ r. record { rows = r.rows; graph = applied r.delta store.now })
+            result (exec (applied earlier store.now) (map call_of steps.now)) }
+        // The delta, put into an equal store without the earlier one, makes the changes of both.
+        ensures over { IfOk result (λ r. IsOver store.now r.delta) }
+        // It is the least: no node in it is as the store has it, and no id that the steps made and removed.
+        ensures least { IfOk result (λ r. IsLeast store.now r.delta) }
+        // It is the run of all: of any calls that leave that store, and then of these.
+        ensures all { GoesOn store.now earlier (map call_of steps.now) result }
+    {
+        let overlay = Overlay::over(alloc, store, earlier)?;
+        run_over(alloc, overlay, steps)
     }
 }

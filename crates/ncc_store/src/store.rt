@@ -1,13 +1,13 @@
 //! Stores.
 
-ghost use Rattle.std.specs.Prelude.{◌≡◌, ◌≤◌, pos, ◌≤ℤ◌, int_lt, not, length, vec_len, vec_capacity, IfOk, IfSome, OnOk, OnErr};
+ghost use Rattle.std.specs.Prelude.{◌≡◌, ◌≤◌, pos, ◌≤ℤ◌, int_lt, not, length};
+ghost use Rattle.std.specs.Prelude.{vec_len, vec_capacity, IfOk, IfSome, IsTrue, OnOk, OnErr, ◌↔◌};
 ghost use Rattle.std.specs.Bool.{beq};
 ghost use Rattle.std.specs.List.{filter, list_any};
 ghost use Rattle.std.specs.List.Sorted.{IsStrictlySortedBy};
 ghost use Rattle.std.specs.Ordering.{int_cmp, int_eq};
 ghost use Rattle.std.specs.Option.{option_copied};
-ghost use Rattle.ncc_store.specs.Graph.{IsGraph, empty, find, ids, last_id, replace, replaced};
-ghost use Rattle.ncc_store.specs.Props.{IsKeyed};
+ghost use Rattle.ncc_store.specs.Graph.{IsGraph, IsNode, empty, find, ids, last_id, replace, replaced};
 ghost use Rattle.ncc_store.specs.Delta.{IsOver, applied};
 
 use crate::node::StoredNode;
@@ -41,7 +41,7 @@ impl Model for Store {
 impl Store {
     /// A store without a node, whose next id is 0.
     pub fn new(alloc: Global) -> Result<Store, Memory>
-        ensures { IfOk result (λ s. s ≡ empty (pos 0)) }
+        ensures empty { IfOk result (λ s. s ≡ empty (pos 0)) }
     {
         Store::with_next(alloc, 0)
     }
@@ -50,7 +50,7 @@ impl Store {
     pub fn with_next(alloc: Global, next: i64) -> Result<Store, Memory>
         requires low { pos 0 ≤ℤ next }
         requires high { next ≤ℤ last_id }
-        ensures { IfOk result (λ s. s ≡ empty next) }
+        ensures empty { IfOk result (λ s. s ≡ empty next) }
     {
         Ok(Store {
             next,
@@ -60,7 +60,7 @@ impl Store {
 
     /// How many nodes there are. It takes no memory.
     pub fn len(&self) -> u64
-        ensures { result ≡ length self.now.nodes }
+        ensures number { result ≡ length self.now.nodes }
     {
         self.nodes.len() as u64
     }
@@ -68,7 +68,8 @@ impl Store {
     /// The id that the next new node gets. It takes no memory.
     pub fn next(&self) -> i64
         ensures next { result ≡ self.now.next }
-        // Ids ascend and are below the next one, which is at most 2^62, and each node has its keys in order.
+        // Ids ascend and are below the next one, which is at most 2^62, and each node has its keys in order, and properties
+        // that are truth values, integers and texts that fit.
         ensures legal { IsGraph self.now }
     {
         self.next
@@ -77,11 +78,21 @@ impl Store {
     /// The node of an id, found in a time that grows with the logarithm of their number. It takes no memory.
     pub fn node(&self, id: i64) -> Option<&StoredNode>
         ensures found { option_copied result ≡ find id self.now.nodes }
-        ensures keyed { IfSome result (λ n. IsKeyed n.now.props) }
+        ensures node { IfSome result (λ n. IsNode n.now) }
     {
         match self.nodes.binary_search_by_key(&id, |node| node.id) {
             Ok(place) => Some(&self.nodes[place]),
             Err(_) => None,
+        }
+    }
+
+    /// Says whether the store has just this node.
+    pub(crate) fn has(&self, node: &StoredNode) -> bool
+        ensures { IsTrue result ↔ (find node.now.id self.now.nodes ≡ Some node.now) }
+    {
+        match self.node(node.id) {
+            None => false,
+            Some(held) => held.equals(node),
         }
     }
 
@@ -96,7 +107,7 @@ impl Store {
     /// nodes in the delta, times the logarithm of the store's; and with the store, where nodes are removed. An `Err`
     /// leaves the store as it was.
     pub fn put_all(&mut self, delta: &Delta) -> Result<(), Memory>
-        requires { IsOver self.old delta.now }
+        requires over { IsOver self.old delta.now }
         ensures ok { OnOk result (self.new ≡ applied delta.now self.old) }
         ensures err { OnErr result (self.new ≡ self.old) }
     {
@@ -114,7 +125,7 @@ impl Store {
 
     /// An equal store, on the same allocator.
     pub fn copy(&self) -> Result<Store, Memory>
-        ensures { IfOk result (λ s. s ≡ self.now) }
+        ensures same { IfOk result (λ s. s ≡ self.now) }
     {
         let mut nodes = Vec::with_capacity(*self.nodes.allocator(), self.nodes.len())?;
         for node in self.nodes.as_slice() {

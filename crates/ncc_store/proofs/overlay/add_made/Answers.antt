@@ -3,7 +3,7 @@ use Rattle.std.proofs.lemmas.List.Elements.{All-head, All-rest, All-same, All-fi
 use Rattle.ncc_store.specs.Exec.{taken}
 use Rattle.ncc_store.specs.Pattern.{wanted_of}
 use Rattle.ncc_store.specs.Layers.{IsNodeAt}
-use Rattle.ncc_store.proofs.Seen.{keyed_in}
+use Rattle.ncc_store.proofs.Seen.{node_in}
 use Rattle.ncc_store.proofs.Scanned.{made_more, made_done}
 use Rattle.ncc_store.proofs.overlay.add_made.Goals as goal
 
@@ -16,7 +16,7 @@ loop-made-init c = record {
 }
 
 pub add_taken-requires : goal.add_taken-requires
-add_taken-requires c = keyed_in c.in-Some.field-0-0.now c.in-Some.made.now c.as_ref.result (All-head (λ e. IsNodeAt e.0 e.1) _ _ (All-same (λ e. IsNodeAt e.0 e.1) _ _ (sym c.in-Some.ensures.steps) c.loop-made.invariant.stand)) c.as_ref.ensures.value
+add_taken-requires c = node_in c.in-Some.field-0-0.now c.in-Some.made.now c.as_ref.result (All-head (λ e. IsNodeAt e.0 e.1) _ _ (All-same (λ e. IsNodeAt e.0 e.1) _ _ (sym c.in-Some.ensures.steps) c.loop-made.invariant.stand)) c.as_ref.ensures.value
 
 pub loop-made-preserved : goal.loop-made-preserved
 loop-made-preserved c = record {

@@ -1,4 +1,7 @@
+use Rattle.std.proofs.Common.{[]}
+use Rattle.std.proofs.lemmas.List.Elements.{All-nil}
 use Rattle.std.proofs.lemmas.Result.{err_from_is_err_and}
+use Rattle.ncc_store.proofs.Plain.{plain_pairs}
 use Rattle.ncc_store.proofs.Running.{pairs_end, pairs_more, pairs_done}
 use Rattle.ncc_store.proofs.run.pairs.Goals as goal
 
@@ -15,3 +18,8 @@ loop-pair-preserved c =
 
 pub returns-clause-pairs : goal.returns-clause-pairs
 returns-clause-pairs c = pairs_done c.args.params.now c.args.list.now c.loop-pair.pair-index c.loop-pair.draft c.in_ok-into_dict.field-0 _ c.loop-pair-test.false c.in_ok-into_dict.ensures.same c.loop-pair.invariant
+
+pub returns-clause-plain : goal.returns-clause-plain
+returns-clause-plain c =
+    plain_pairs c.args.params.now [] c.in_ok-into_dict.field-0 c.args.list.now (All-nil _)
+    (pairs_done c.args.params.now c.args.list.now c.loop-pair.pair-index c.loop-pair.draft c.in_ok-into_dict.field-0 _ c.loop-pair-test.false c.in_ok-into_dict.ensures.same c.loop-pair.invariant)

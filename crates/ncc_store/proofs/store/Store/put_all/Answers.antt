@@ -2,9 +2,10 @@ use Rattle.std.proofs.Common.{rules, arith, ◌≡◌, ℤ, length, take_at, ◌
 use Rattle.std.specs.List.{list_any}
 use Rattle.std.specs.Bool.{beq}
 use Rattle.ncc_store.specs.declared.node.StoredNode.{StoredNode}
-use Rattle.ncc_store.specs.Graph.{IsGraph, replaced}
-use Rattle.ncc_store.specs.Delta.{applied}
+use Rattle.ncc_store.specs.Graph.{replaced}
+use Rattle.ncc_store.specs.Delta.{IsOver, applied}
 use Rattle.ncc_store.proofs.Deltas.{put_in_steps}
+use Rattle.ncc_store.proofs.Earlier.{legal_applied}
 use Rattle.ncc_store.proofs.Legal.{legal_same}
 use Rattle.ncc_store.proofs.store.Store.put_all.Goals as goal
 
@@ -20,11 +21,11 @@ nodes_are c =
     let d : c.renew.new.nodes ≡ replaced c.in_ok-changed.changed.items c.self.inside.nodes.items = search rules in
     let e : c.in_ok-changed.changed.items ≡ filter (λ n. beq false (not (int_lt n.id c.self.inside.next))) c.args.delta.now.put = search rules in
     let f : c.in_ok-made.made.items ≡ filter (λ n. beq true (not (int_lt n.id c.self.inside.next))) c.args.delta.now.put = search rules in
-    put_in_steps c.args.delta.now (record { next = c.self.inside.next; nodes = c.self.inside.nodes.items }) _ _ _ _ _ c.self.invariant c.requires.put a b d e f
+    put_in_steps c.args.delta.now (record { next = c.self.inside.next; nodes = c.self.inside.nodes.items }) _ _ _ _ _ c.self.invariant c.requires.over.put a b d e f
 
 pub invariant_of-self-2 : goal.invariant_of-self-2
 invariant_of-self-2 c =
-    legal_same _ _ _ _ (next_is c) (nodes_are c) (subst (λ g. IsGraph (applied c.args.delta.now g)) (sym c.self.view_is) c.requires.legal)
+    legal_same _ _ _ _ (next_is c) (nodes_are c) (legal_applied (record { next = c.self.inside.next; nodes = c.self.inside.nodes.items }) c.args.delta.now c.self.invariant (subst (λ g. IsOver g c.args.delta.now) (sym c.self.view_is) c.requires.over))
 
 pub returns-clause-ok : goal.returns-clause-ok
 returns-clause-ok c = ap₂ (λ i ns. record { next = i; nodes = ns }) (next_is c) (nodes_are c) ∙ ap (applied c.args.delta.now) c.self.view_is
