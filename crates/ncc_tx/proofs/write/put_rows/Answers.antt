@@ -3,7 +3,8 @@ use Rattle.ncc_pack.specs.declared.value.Value.TheVariants as v
 use Rattle.ncc_tx.proofs.Pairs.{whole_by}
 use Rattle.ncc_tx.specs.Spelled.{rows_value}
 use Rattle.ncc_pack.specs.Short.{short}
-use Rattle.ncc_tx.proofs.ItemBytes.{any_error}
+use Rattle.ncc_tx.specs.Items.{Begins}
+use Rattle.ncc_tx.proofs.ItemBytes.{any_error, begins_on}
 use Rattle.ncc_tx.proofs.Listed.{ends, full_head, full_item, item_fits, one_put}
 use Rattle.ncc_tx.proofs.write.put_rows.Goals as goal
 
@@ -42,3 +43,8 @@ returns-clause-ok c =
     ∙ ap (λ t. c.args.into.now.items ++ t)
     (ends v.List c.args.rows.now c.as_slice-row-items.result.now c.loop-row.row-index c.as_slice-row-items.ensures
     c.loop-row-test.false)
+
+pub returns-in_err-put_values-clause-err : goal.returns-in_err-put_values-clause-err
+returns-in_err-put_values-clause-err c =
+    any_error c.from_residual-in_err-put_values.result (Begins c.args.into.now.items c.put_values.new.into.items)
+    (begins_on c.args.into.now.items c.loop-row.into.items c.put_values.new.into.items _ c.loop-row.invariant.written c.in_err-put_values.ensures.err)

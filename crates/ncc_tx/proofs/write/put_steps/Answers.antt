@@ -3,7 +3,8 @@ use Rattle.ncc_tx.proofs.Steps.{step_value, steps_are}
 use Rattle.ncc_store.specs.Exec.{call_of}
 use Rattle.ncc_tx.specs.Spelled.{calls_value}
 use Rattle.ncc_pack.specs.Short.{short}
-use Rattle.ncc_tx.proofs.ItemBytes.{any_error}
+use Rattle.ncc_tx.specs.Items.{Begins}
+use Rattle.ncc_tx.proofs.ItemBytes.{any_error, begins_on}
 use Rattle.ncc_tx.proofs.Listed.{ends, full_head, full_item, item_fits, one_put}
 use Rattle.ncc_tx.proofs.write.put_steps.Goals as goal
 
@@ -43,3 +44,8 @@ returns-clause-ok c =
     ∙ ap (λ t. c.args.into.now.items ++ t)
     (ends step_value c.args.steps.now c.as_slice-step-items.result.now c.loop-step.step-index c.as_slice-step-items.ensures
     c.loop-step-test.false))
+
+pub returns-in_err-put_step-clause-err : goal.returns-in_err-put_step-clause-err
+returns-in_err-put_step-clause-err c =
+    any_error c.from_residual-in_err-put_step.result (Begins c.args.into.now.items c.put_step.new.into.items)
+    (begins_on c.args.into.now.items c.loop-step.into.items c.put_step.new.into.items _ c.loop-step.invariant.written c.in_err-put_step.ensures.err)

@@ -1,7 +1,8 @@
 use Rattle.std.proofs.Common.{◌<◌, ◌≡◌, ◌+◌, ◌++◌, length, map, vec_capacity, refl, ap, sym, ◌∙◌, arith}
 use Rattle.ncc_tx.specs.Spelled.{rows_value, told_value}
 use Rattle.ncc_pack.specs.Short.{short}
-use Rattle.ncc_tx.proofs.ItemBytes.{any_error}
+use Rattle.ncc_tx.specs.Items.{Begins}
+use Rattle.ncc_tx.proofs.ItemBytes.{any_error, begins_on}
 use Rattle.ncc_tx.proofs.Listed.{ends, full_head, full_item, item_fits, one_put}
 use Rattle.ncc_tx.proofs.write.put_told.Goals as goal
 
@@ -39,3 +40,8 @@ returns-clause-ok c =
     ∙ ap (λ t. c.args.into.now.items ++ t)
     (ends rows_value c.args.told.now c.as_slice-rows-items.result.now c.loop-rows.rows-index c.as_slice-rows-items.ensures
     c.loop-rows-test.false)
+
+pub returns-in_err-put_rows-clause-err : goal.returns-in_err-put_rows-clause-err
+returns-in_err-put_rows-clause-err c =
+    any_error c.from_residual-in_err-put_rows.result (Begins c.args.into.now.items c.put_rows.new.into.items)
+    (begins_on c.args.into.now.items c.loop-rows.into.items c.put_rows.new.into.items _ c.loop-rows.invariant.written c.in_err-put_rows.ensures.err)
