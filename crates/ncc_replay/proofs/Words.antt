@@ -37,7 +37,8 @@ pub cut_some : (line : List ℕ) (i : ℕ) → position (λ b. b == 32) line ≡
     → (i < length line) × (words_between line ≡ take i line ∷ words_between (drop (i + 1) line))
 cut_some line i e =
     let found = cond_some (nat_lt (position_or_len (λ b. b == 32) line) (length line)) (position_or_len (λ b. b == 32) line) i e in
-    let within : position_or_len (λ b. b == 32) line < length line = ltb-true (position_or_len (λ b. b == 32) line) (length line) found.0 in (
+    let within : position_or_len (λ b. b == 32) line < length line = ltb-true (position_or_len (λ b. b == 32) line) (length line)
+    found.0 in (
       omega (arith, found.1),
       slice_split_first (λ b. b == 32) line 0 within
           ∙ ap (λ n. take n line ∷ words_between (drop (n + 1) line)) found.1,

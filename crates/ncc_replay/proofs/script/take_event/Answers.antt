@@ -14,7 +14,8 @@ returns-in-Err-clause-bad c = λ at cause h all rest r.
 pub returns-in-Ok-clause-ok : goal.returns-in-Ok-clause-ok
 returns-in-Ok-clause-ok c = λ all rest r.
     let says : Says c.args.cluster c.args.line.now c.in-Ok-Some.event = rw c.in-Ok-Some.field-0-is at c.in-Ok-Some.ensures.says in
-    reached_more all rest c.args.cluster c.args.number c.args.line.now c.args.world c.event.new.self c.in-Ok-Some.event says c.in-Ok.ensures.ok r
+    reached_more all rest c.args.cluster c.args.number c.args.line.now c.args.world c.event.new.self c.in-Ok-Some.event says
+    c.in-Ok.ensures.ok r
 
 pub returns-in-Err-event-clause-bad : goal.returns-in-Err-event-clause-bad
 returns-in-Err-event-clause-bad c = λ at cause h all rest r.

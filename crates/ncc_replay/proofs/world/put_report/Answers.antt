@@ -8,7 +8,8 @@ use Rattle.ncc_replay.proofs.world.put_report.Goals as goal
 
 pub returns : goal.returns
 returns c =
-    report_is c.args.cluster.now c.args.into.now c.extend.new.self c.put_told.new.into c.put_conns.new.into c.put_members.new.into c.put_history.new.into c.requires
+    report_is c.args.cluster.now c.args.into.now c.extend.new.self c.put_told.new.into c.put_conns.new.into c.put_members.new.into
+    c.put_history.new.into c.requires
     c.in_ok-extend.ensures.ok
     (c.in_ok-put_told.ensures ∙ ap (λ l. c.extend.new.self ++ flat_map fact_line l) c.as_slice.ensures.value)
     (c.in_ok-put_conns.ensures ∙ (ap (λ l. c.put_told.new.into ++ conn_lines 1 l c.as_slice-3.result.now) c.as_slice-2.ensures.value
