@@ -259,23 +259,33 @@ fn letters(alloc: Global, count: u32) -> Result<Text, Stop> {
     Ok(text)
 }
 
+/// Says of a large value whether it fits, and if so whether it is written in as many bytes as is told, and read again.
+fn fit_large(alloc: Global, value: &Value) -> Result<(bool, bool), Stop> {
+    if !value.fits() {
+        return Ok((false, true));
+    }
+    let mut bytes = Bytes::new(alloc);
+    encode(value, &mut bytes)?;
+    let told = short_len(value) == bytes.len() as u64;
+    let read = matches!(decode(alloc, bytes.as_slice()), Ok((_, len)) if len == bytes.len());
+    Ok((true, told && read))
+}
+
 /// A text, bytes, a key and a label of so many bytes.
 fn fit_by_size(alloc: Global, line: &str, into: &mut String) -> Result<(), Stop> {
     let text = letters(alloc, line.parse::<u32>()?)?;
     let held = Bytes::from_slice(alloc, text.as_str().as_bytes())?;
+    let of_bytes = fit_large(alloc, &Value::Bytes(held))?;
     let mut pairs = Sequence::new(alloc);
     pairs.push((text.copy()?, Value::Null))?;
+    let of_key = fit_large(alloc, &Value::Dict(pairs))?;
     let mut labels = Sequence::new(alloc);
     labels.push(Value::Text(text.copy()?))?;
-    let node = node_of(labels, Sequence::new(alloc));
-    let mut first = String::new(alloc);
-    let mut second = String::new(alloc);
-    both(alloc, &Value::Bytes(held), &Value::Text(text), &mut first)?;
-    both(alloc, &Value::Dict(pairs), &node, &mut second)?;
-    into.push_str(first.as_str())?;
-    if first.as_str() != second.as_str() {
-        into.push_str(" and ")?;
-        into.push_str(second.as_str())?;
+    let of_label = fit_large(alloc, &node_of(labels, Sequence::new(alloc)))?;
+    let of_text = fit_large(alloc, &Value::Text(text))?;
+    into.push_str(if of_text.0 { "fits" } else { "no" })?;
+    if !of_text.1 || of_bytes != of_text || of_key != of_text || of_label != of_text {
+        into.push_str(", but not in each kind, or not read again")?;
     }
     Ok(())
 }
