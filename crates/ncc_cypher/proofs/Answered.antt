@@ -13,20 +13,16 @@ use Rattle.ncc_cypher.specs.declared.error.ParseError.{ParseError}
 use Rattle.ncc_cypher.specs.declared.error.ParseError.TheVariants.{Syntax, Memory}
 use Rattle.ncc_cypher.specs.declared.error.SyntaxKind.{SyntaxKind}
 use Rattle.ncc_cypher.specs.declared.error.SyntaxKind.TheVariants.{BadToken, Unexpected}
-use Rattle.ncc_cypher.specs.declared.marks.Marks.{Marks}
-use Rattle.ncc_cypher.specs.declared.state.State.{State}
-use Rattle.ncc_cypher.specs.declared.state.State.TheVariants as s
+use Rattle.ncc_cypher.specs.State.{State}
+use Rattle.ncc_cypher.specs.State as s
 use Rattle.ncc_cypher.specs.Token as k
 use Rattle.ncc_cypher.specs.Token.{Begins, Placed, Tokens, tokens_of, past_blanks, is_blank}
 use Rattle.ncc_cypher.specs.Scan.{token_at, lexeme_at}
 use Rattle.ncc_cypher.specs.Grammar.{Name, Spells}
-use Rattle.ncc_cypher.specs.Columns.{columns, between}
+use Rattle.ncc_cypher.specs.Columns.{columns}
 use Rattle.ncc_cypher.specs.Machine.{step, accepts, then_run, run}
-use Rattle.ncc_cypher.specs.Marks.{no_marks, mark_more, finish}
-use Rattle.ncc_cypher.specs.Spelled.{Spelled, Continued, Stopped, IsOrMemory}
-use Rattle.ncc_cypher.specs.Outcome.{with_columns, ended, Outcome}
+use Rattle.ncc_cypher.specs.Spelled.{Spelled, Continued, Stopped}
 use Rattle.ncc_cypher.proofs.Sources.{token_begins, none_begins, tokens_more, goes_further, nothing, Left, all_tokens, has_source}
-use Rattle.ncc_cypher.proofs.Marked.{Marked, marked_none, marked_more, finished}
 use Rattle.ncc_cypher.proofs.Sound.{sound}
 use Rattle.ncc_cypher.proofs.Complete.{complete, bare, run_on}
 use Rattle.ncc_cypher.proofs.Continue.{completed}
@@ -79,19 +75,12 @@ pub record Reached (source rest : List ℕ) (x : State) : Type 0 where
   pub tokens : Tokens source placed rest
   pub goes : run s.Start (tokens_of placed) ≡ Some x
 
-pub record Reading (source rest : List ℕ) (x : State) (marks : Marks) : Type 0 where
-  pub reached : Reached source rest x
-  pub marked : Marked reached.placed rest marks
-
 pub none_run : run s.Start [] ≡ Some s.Start
 unfolding run
 none_run = refl
 
 abbrev pub nowhere : (source : List ℕ) → Reached source source s.Start
 nowhere source = record { placed = []; tokens = k.stop source; goes = none_run }
-
-pub reading_none : (source : List ℕ) → Reading source source s.Start no_marks
-reading_none source = record { reached = nowhere source; marked = marked_none source }
 
 pub tokens_append : (ps qs : List Placed) → tokens_of (ps ++ qs) ≡ tokens_of ps ++ tokens_of qs
 tokens_append [] qs = refl
@@ -109,12 +98,6 @@ further source rest after x y t r b f =
       tokens = tokens_more source r.placed rest t after r.tokens b;
       goes = ap (run s.Start) (tokens_append r.placed (p ∷ [])) ∙ one_step (tokens_of r.placed) t x (Some y) r.goes f;
     }
-
-pub reading_more : (source rest after : List ℕ) (x y : State) (marks : Marks) (t : Token) → Reading source rest x marks → token_at (past_blanks rest) ≡ Some (t, after) → step x t ≡ Some y → Reading source after y (mark_more marks t (between rest after) (between (past_blanks rest) after))
-reading_more source rest after x y marks t r e f =
-    let b = token_begins (past_blanks rest) t after e in
-    let w = token_front rest t after b in
-    record { reached = further source rest after x y t r.reached b f; marked = marked_more r.reached.placed rest marks t (past_blanks rest) after w.0 w.2.0 w.1 w.2.1 r.marked }
 
 -- ---- what is said at the end
 
@@ -231,50 +214,3 @@ unique source y z p q =
     let i : c.end ≡ d.end = state_is c.end d.end (sym c.goes ∙ ap (λ (u : List Placed). run s.Start (tokens_of u)) (sym e.0) ∙ d.goes) in
     let b : bare y ≡ bare z = statement_is (bare y) (bare z) (sym c.is ∙ ap accepts i ∙ d.is) in
     whole_is y z b (p.columns ∙ ap (λ (u : List Placed). map v.Text (columns u)) (sym e.0) ∙ sym q.columns)
-
--- ---- the answers
-
-by_accept : (source rest : List ℕ) (x : State) (marks : Marks) (o : Option Statement) → Reading source rest x marks → token_at (past_blanks rest) ≡ None → past_blanks rest ≡ [] → accepts x ≡ o → Outcome source (with_columns (length source - length (past_blanks rest)) (finish marks) o)
-by_accept source rest x marks None r e n a = is_bad source rest x r.reached e (λ z. a)
-by_accept source rest x marks (Some y) r e n a = is_spelled source rest x y (finish marks) r.reached (finished r.reached.placed rest marks r.marked) n a
-
-abbrev empty_or_not : List ℕ → Bool → Type 0
-empty_or_not bs true = bs ≡ []
-empty_or_not bs false = bs ≡ [] → ⊥
-
-by_end : (source rest : List ℕ) (x : State) (marks : Marks) (b : Bool) → Reading source rest x marks → token_at (past_blanks rest) ≡ None → empty_or_not (past_blanks rest) b → Outcome source (ended x marks b (length source - length (past_blanks rest)))
-by_end source rest x marks true r e n = by_accept source rest x marks (accepts x) r e n refl
-by_end source rest x marks false r e n = is_bad source rest x r.reached e (λ z. absurd (n z))
-
-truth : true ≡ false → ⊥
-truth e = cc
-
-nil_cons : (x : ℕ) (bs : List ℕ) → [] ≡ x ∷ bs → ⊥
-nil_cons x bs e = cc
-
-is_empty_by : (bs : List ℕ) (b : Bool) → b ≡ (length bs == 0) → empty_or_not bs b
-is_empty_by [] true e = refl
-is_empty_by [] false e = absurd (truth (sym e))
-is_empty_by (x ∷ bs) true e = absurd (let z : (suc (length bs) == 0) ≡ false = grind (arith, nat_tests) in truth (e ∙ z))
-is_empty_by (x ∷ bs) false e = λ f. nil_cons x bs (sym f)
-
-memory_free : (source : List ℕ) (r q : Result Statement ParseError) → IsOrMemory r q → Outcome source q → Outcome source r
-memory_free source (Ok y) q e f = subst (Outcome source) e f
-memory_free source (Err Memory) q e f = tt
-memory_free source (Err (Syntax at kind)) q e f = subst (Outcome source) e f
-
-pub is_ended : (source rest : List ℕ) (x : State) (marks : Marks) (b : Bool) (at : ℕ) (r : Result Statement ParseError) → Reading source rest x marks → token_at (past_blanks rest) ≡ None → b ≡ (length (past_blanks rest) == 0) → at ≡ length source - length (past_blanks rest) → IsOrMemory r (ended x marks b at) → Outcome source r
-is_ended source rest x marks b at r w e n p q = memory_free source r (ended x marks b at) q (subst (λ (z : ℕ). Outcome source (ended x marks b z)) (sym p) (by_end source rest x marks b w e (is_empty_by (past_blanks rest) b n)))
-
--- what the contract of `parse` says
-pub is_found : (source : List ℕ) (r : Result Statement ParseError) → Outcome source r → IfOk r (λ y. Spelled y source)
-is_found source (Ok y) e = e
-is_found source (Err e) x = tt
-
-pub is_only : (source : List ℕ) (r : Result Statement ParseError) → Outcome source r → (y : Statement) → Spelled y source → IsOrMemory r (Ok y)
-is_only source (Ok z) e y w = ap (λ (q : Statement). Ok q) (unique source y z w e)
-is_only source (Err Memory) e y w = tt
-is_only source (Err (Syntax at kind)) e y w = absurd (e.never y w)
-
-pub is_refused : (source : List ℕ) (r : Result Statement ParseError) → Outcome source r → (at : ℕ) (kind : SyntaxKind) → r ≡ Err (Syntax at kind) → Stopped source at kind
-is_refused source r e at kind f = subst (Outcome source) f e

@@ -12,12 +12,12 @@ use Rattle.ncc_cypher.specs.declared.tree.Item.TheVariants as i
 use Rattle.ncc_cypher.specs.declared.tree.Head.{Head}
 use Rattle.ncc_cypher.specs.declared.tree.Head.TheVariants as h
 use Rattle.ncc_cypher.specs.declared.tree.Change.TheVariants as c
-use Rattle.ncc_cypher.specs.declared.state.Made.{Made}
-use Rattle.ncc_cypher.specs.declared.state.Body.{Body}
-use Rattle.ncc_cypher.specs.declared.state.Place.{Place}
-use Rattle.ncc_cypher.specs.declared.state.Place.TheVariants as p
-use Rattle.ncc_cypher.specs.declared.state.State.{State}
-use Rattle.ncc_cypher.specs.declared.state.State.TheVariants as s
+use Rattle.ncc_cypher.specs.Place.{Made}
+use Rattle.ncc_cypher.specs.Place.{Body}
+use Rattle.ncc_cypher.specs.Place.{Place}
+use Rattle.ncc_cypher.specs.Place as p
+use Rattle.ncc_cypher.specs.State.{State}
+use Rattle.ncc_cypher.specs.State as s
 use Rattle.ncc_cypher.specs.Grammar.{Name, Choice, Named, given, term, sum, change, item, named, NotEmpty, IsBound, IsTerm, IsItem, IsPair, is_count, items_of, Goes, count, items, nothing}
 use Rattle.ncc_cypher.specs.Machine.{is_bound, scope, a_pair, a_sum, a_body, is_find, at_closed, at_setting, at_set_owned, at_set_dotted, at_set_keyed, behind_change, at_deleting, at_deleted, at_delete_return, at_needs, at_param, at_dotted, behind_item, behind_name, at_owned, behind_sum, at_after, first_name, at_returning, at_counting, at_either, at_count_opened, at_count_owned, at_counted, at_count_aliasing, at_aliasing, at_aliased}
 use Rattle.ncc_cypher.proofs.Lists.{each_then, each_then_more, parted_last, parted_then, not_empty, Every_more, items_more, same_name}
@@ -94,7 +94,7 @@ set_dotted_shows k a ps (t.Name q) r fine e = goes_to k (s.SetDotted a ps) (t.Na
 set_dotted_shows k a ps _ r fine e = never r e
 
 pub set_keyed_shows : (k : Choice) (a : Made) (ps : List Pair) (q : Name) (y : Token) (r : State) → Fine k (s.SetKeyed a ps q) → at_set_keyed a ps q y ≡ Some r → Shows k (s.SetKeyed a ps q) y r
-set_keyed_shows k a ps q t.Equals r fine e = goes_to k (s.SetKeyed a ps q) t.Equals (s.Needs (p.Set a ps q) []) r k e (append-nil _ ∙ simp append_assoc) (fine, tt)
+set_keyed_shows k a ps q t.Equals r fine e = goes_to k (s.SetKeyed a ps q) t.Equals (s.Needs (p.InSet a ps q) []) r k e (append-nil _ ∙ simp append_assoc) (fine, tt)
 set_keyed_shows k a ps q _ r fine e = never r e
 
 change_shows : (k : Choice) (a : Made) (ps : List Pair) (x : Pair) (y : Token) (old r : State) → shown k old ≡ made_tokens k a ++ (t.Set ∷ (each_then (change a.name) t.Comma ps ++ change a.name x)) → FineSet k a ps → IsPair a.name x → behind_change a (ps ++ (x ∷ [])) y ≡ Some r → Shows k old y r
@@ -162,31 +162,31 @@ dotted_shows k w ts _ r fine e = never r e
 abbrev pub item_named : Item → Option Name → Choice → Choice
 item_named x n k = record k { named = k.named ++ (record { item = x; name = n } ∷ []) }
 
-item_fine : (k : Choice) (b : Body) (xs : List Item) (x : Item) (n : Option Name) → FinePlace k (p.Item b xs) → IsItem b.made.name x → FinePlace (item_named x n k) (p.Item b (xs ++ (x ∷ [])))
+item_fine : (k : Choice) (b : Body) (xs : List Item) (x : Item) (n : Option Name) → FinePlace k (p.InItem b xs) → IsItem b.made.name x → FinePlace (item_named x n k) (p.InItem b (xs ++ (x ∷ [])))
 item_fine k b xs x n fine is = (fine.0, Every_more (IsItem b.made.name) xs x fine.1 is, items_more k.named (record { item = x; name = n }) ∙ ap (λ (z : List Item). z ++ (x ∷ [])) fine.2)
 
-item_shows : (k : Choice) (b : Body) (xs : List Item) (x : Item) (y : Token) (old r : State) → shown k old ≡ so_far k (p.Item b xs) ++ item b.made.name x → FinePlace k (p.Item b xs) → IsItem b.made.name x → behind_item b xs x y ≡ Some r → Shows k old y r
+item_shows : (k : Choice) (b : Body) (xs : List Item) (x : Item) (y : Token) (old r : State) → shown k old ≡ so_far k (p.InItem b xs) ++ item b.made.name x → FinePlace k (p.InItem b xs) → IsItem b.made.name x → behind_item b xs x y ≡ Some r → Shows k old y r
 item_shows k b xs x t.Comma old r text fine is e =
-    goes_to k old t.Comma (s.Needs (p.Item b (xs ++ (x ∷ []))) []) r (item_named x None k) e
+    goes_to k old t.Comma (s.Needs (p.InItem b (xs ++ (x ∷ []))) []) r (item_named x None k) e
     (append-nil _ ∙ ap (λ (z : List Token). body_tokens k b ++ (t.Return ∷ z)) (each_then_more (named b.made.name) t.Comma k.named (record { item = x; name = None })) ∙ rw text (simp (append_assoc, append-nil)))
     (item_fine k b xs x None fine is, tt)
 item_shows k b xs x t.As old r text fine is e = goes_to k old t.As (s.Aliasing b xs x) r k e (rw text (simp append_assoc)) (fine, is)
 item_shows k b xs x _ old r text fine is e = never r e
 
 name_shows : (k : Choice) (w : Place) (ts : List Term) (y : Token) (r : State) → Fine k (s.Owned w ts) → behind_name w ts y ≡ Some r → Shows k (s.Owned w ts) y r
-name_shows k (p.Item b xs) [] y r fine e = item_shows k b xs i.Whole y (s.Owned (p.Item b xs) []) r refl fine.0.0 fine.1 e
-name_shows k (p.Item b xs) (x ∷ ts) y r fine e = never r e
-name_shows k (p.Pair n ps q) ts y r fine e = never r e
-name_shows k (p.Set a ps q) ts y r fine e = never r e
+name_shows k (p.InItem b xs) [] y r fine e = item_shows k b xs i.Whole y (s.Owned (p.InItem b xs) []) r refl fine.0.0 fine.1 e
+name_shows k (p.InItem b xs) (x ∷ ts) y r fine e = never r e
+name_shows k (p.InPair n ps q) ts y r fine e = never r e
+name_shows k (p.InSet a ps q) ts y r fine e = never r e
 
 pub owned_shows : (k : Choice) (w : Place) (ts : List Term) (y : Token) (r : State) → Fine k (s.Owned w ts) → at_owned w ts y ≡ Some r → Shows k (s.Owned w ts) y r
 owned_shows k w ts t.Dot r fine e = goes_to k (s.Owned w ts) t.Dot (s.Dotted w ts) r k e (simp append_assoc) fine
 owned_shows k w ts y r fine e = name_shows k w ts y r fine e
 
 sum_shows : (k : Choice) (w : Place) (ts : List Term) (y : Token) (r : State) → Fine k (s.After w ts) → behind_sum w ts y ≡ Some r → Shows k (s.After w ts) y r
-sum_shows k (p.Pair n ps q) ts y r fine e = pair_shows k n ps (a_pair q ts) y (s.After (p.Pair n ps q) ts) r (simp append_assoc) fine.0.0 fine.0.1 fine.1 e
-sum_shows k (p.Set a ps q) ts y r fine e = change_shows k a ps (a_pair q ts) y (s.After (p.Set a ps q) ts) r (simp append_assoc) fine.0 fine.1 e
-sum_shows k (p.Item b xs) ts y r fine e = item_shows k b xs (a_sum ts) y (s.After (p.Item b xs) ts) r refl fine.0 fine.1 e
+sum_shows k (p.InPair n ps q) ts y r fine e = pair_shows k n ps (a_pair q ts) y (s.After (p.InPair n ps q) ts) r (simp append_assoc) fine.0.0 fine.0.1 fine.1 e
+sum_shows k (p.InSet a ps q) ts y r fine e = change_shows k a ps (a_pair q ts) y (s.After (p.InSet a ps q) ts) r (simp append_assoc) fine.0 fine.1 e
+sum_shows k (p.InItem b xs) ts y r fine e = item_shows k b xs (a_sum ts) y (s.After (p.InItem b xs) ts) r refl fine.0 fine.1 e
 
 pub after_shows : (k : Choice) (w : Place) (ts : List Term) (y : Token) (r : State) → Fine k (s.After w ts) → at_after w ts y ≡ Some r → Shows k (s.After w ts) y r
 after_shows k w ts t.Plus r fine e =
@@ -205,7 +205,7 @@ first_shows k b x true true r eq ez fine e =
     goes_to k (s.Returning b) (t.Name x) (s.Either b) r (word x k) e (rw n.0 (simp append_assoc)) (fine.0, (fine.1, n.1, ez), n.0)
 first_shows k b x true false r eq ez fine e =
     let n = bound_is b.made.name x eq in
-    goes_to k (s.Returning b) (t.Name x) (s.Owned (p.Item b []) []) r (no_items k) e (rw n.0 (simp append_assoc)) (((fine.0, tt, refl), tt), n.1)
+    goes_to k (s.Returning b) (t.Name x) (s.Owned (p.InItem b []) []) r (no_items k) e (rw n.0 (simp append_assoc)) (((fine.0, tt, refl), tt), n.1)
 first_shows k b x false true r eq ez fine e =
     let l = let_on (is_some b.made.name) (s.Counting b) r e in
     goes_to k (s.Returning b) (t.Name x) (s.Counting b) r (word x k) l.1 (simp append_assoc) (fine.1, some_name b.made.name l.0, ez)
@@ -213,11 +213,11 @@ first_shows k b x false false r eq ez fine e = never r e
 
 pub returning_shows : (k : Choice) (b : Body) (y : Token) (r : State) → Fine k (s.Returning b) → at_returning b y ≡ Some r → Shows k (s.Returning b) y r
 returning_shows k b (t.Name x) r fine e = first_shows k b x (is_bound b.made.name x) (is_count x) r refl refl fine e
-returning_shows k b y r fine e = like k (no_items k) (s.Needs (p.Item b []) []) (s.Returning b) y r (append-nil _) (needs_shows (no_items k) (p.Item b []) [] y r ((fine.0, tt, refl), tt) e)
+returning_shows k b y r fine e = like k (no_items k) (s.Needs (p.InItem b []) []) (s.Returning b) y r (append-nil _) (needs_shows (no_items k) (p.InItem b []) [] y r ((fine.0, tt, refl), tt) e)
 
 pub either_shows : (k : Choice) (b : Body) (y : Token) (r : State) → Fine k (s.Either b) → at_either b y ≡ Some r → Shows k (s.Either b) y r
 either_shows k b t.Open r fine e = goes_to k (s.Either b) t.Open (s.CountOpened b) r k e (rw fine.2 (simp append_assoc)) fine.1
-either_shows k b y r fine e = like k (no_items k) (s.Owned (p.Item b []) []) (s.Either b) y r (simp append_assoc) (owned_shows (no_items k) (p.Item b []) [] y r (((fine.0, tt, refl), tt), fine.1.1) e)
+either_shows k b y r fine e = like k (no_items k) (s.Owned (p.InItem b []) []) (s.Either b) y r (simp append_assoc) (owned_shows (no_items k) (p.InItem b []) [] y r (((fine.0, tt, refl), tt), fine.1.1) e)
 
 pub counting_shows : (k : Choice) (b : Body) (y : Token) (r : State) → Fine k (s.Counting b) → at_counting b y ≡ Some r → Shows k (s.Counting b) y r
 counting_shows k b t.Open r fine e = goes_to k (s.Counting b) t.Open (s.CountOpened b) r k e (simp append_assoc) fine
@@ -256,7 +256,7 @@ some_named (n ∷ ns) xs e f = tt
 
 pub aliased_shows : (k : Choice) (b : Body) (xs : List Item) (y : Token) (r : State) → Fine k (s.Aliased b xs) → at_aliased b xs y ≡ Some r → Shows k (s.Aliased b xs) y r
 aliased_shows k b xs t.Comma r fine e =
-    goes_to k (s.Aliased b xs) t.Comma (s.Needs (p.Item b xs) []) r k e
+    goes_to k (s.Aliased b xs) t.Comma (s.Needs (p.InItem b xs) []) r k e
     (append-nil _ ∙ ap (λ (z : List Token). body_tokens k b ++ (t.Return ∷ z)) (parted_then (named b.made.name) t.Comma k.named (some_named k.named xs fine.0.2 fine.1)) ∙ simp append_assoc)
     (fine.0, tt)
 aliased_shows k b xs _ r fine e = never r e

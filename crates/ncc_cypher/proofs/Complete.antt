@@ -16,17 +16,17 @@ use Rattle.ncc_cypher.specs.declared.tree.Change.TheVariants as c
 use Rattle.ncc_cypher.specs.declared.tree.Tail.{Tail}
 use Rattle.ncc_cypher.specs.declared.tree.Tail.TheVariants as l
 use Rattle.ncc_cypher.specs.declared.tree.Statement.{Statement}
-use Rattle.ncc_cypher.specs.declared.state.Verb.{Verb}
-use Rattle.ncc_cypher.specs.declared.state.Verb.TheVariants as v
-use Rattle.ncc_cypher.specs.declared.state.Opening.{Opening}
-use Rattle.ncc_cypher.specs.declared.state.Opening.TheVariants as o
-use Rattle.ncc_cypher.specs.declared.state.Node.{Node}
-use Rattle.ncc_cypher.specs.declared.state.Made.{Made}
-use Rattle.ncc_cypher.specs.declared.state.Body.{Body}
-use Rattle.ncc_cypher.specs.declared.state.Place.{Place}
-use Rattle.ncc_cypher.specs.declared.state.Place.TheVariants as p
-use Rattle.ncc_cypher.specs.declared.state.State.{State}
-use Rattle.ncc_cypher.specs.declared.state.State.TheVariants as s
+use Rattle.ncc_cypher.specs.Verb.{Verb}
+use Rattle.ncc_cypher.specs.Verb as v
+use Rattle.ncc_cypher.specs.Opening.{Opening}
+use Rattle.ncc_cypher.specs.Opening as o
+use Rattle.ncc_cypher.specs.Place.{Node}
+use Rattle.ncc_cypher.specs.Place.{Made}
+use Rattle.ncc_cypher.specs.Place.{Body}
+use Rattle.ncc_cypher.specs.Place.{Place}
+use Rattle.ncc_cypher.specs.Place as p
+use Rattle.ncc_cypher.specs.State.{State}
+use Rattle.ncc_cypher.specs.State as s
 use Rattle.ncc_cypher.specs.Grammar.{Name, Choice, Named, given, term, further, parted, sum, pair, change, alias, item, named, node, head, props, changes, tail, semicolon, NotEmpty, Every, IsBound, IsTerm, IsSum, IsItem, IsPair, has, AllNew, ArePairs, IsHead, IsChange, IsTail, is_count, items_of, Goes, Kind, items, nothing, kind, Spells}
 use Rattle.ncc_cypher.specs.Machine.{when, is_bound, scope, a_node, a_made, a_body, a_statement, alone, is_find, then_state, first_name, opening, go, step, ends, accepts, then_run, run}
 use Rattle.ncc_cypher.proofs.Lists.{itself}
@@ -94,11 +94,11 @@ keyed_run : (n : Node) (b : List Pair) (k : Name) → has k b ≡ false → step
 unfolding go
 keyed_run n b k new = rw new refl
 
-value_run : (n : Node) (b : List Pair) (x : Pair) → IsPair None x → Goes_by (s.Keyed n b x.key) (t.Colon ∷ sum None x.value.terms) (s.After (p.Pair n b x.key) x.value.terms)
+value_run : (n : Node) (b : List Pair) (x : Pair) → IsPair None x → Goes_by (s.Keyed n b x.key) (t.Colon ∷ sum None x.value.terms) (s.After (p.InPair n b x.key) x.value.terms)
 unfolding run go
-value_run n b x f = λ us. sum_run (p.Pair n b x.key) x.value.terms f us
+value_run n b x f = λ us. sum_run (p.InPair n b x.key) x.value.terms f us
 
-pair_run : (n : Node) (b : List Pair) (x : Pair) → has x.key b ≡ false → IsPair None x → Goes_by (s.Further n b) (pair x) (s.After (p.Pair n b x.key) x.value.terms)
+pair_run : (n : Node) (b : List Pair) (x : Pair) → has x.key b ≡ false → IsPair None x → Goes_by (s.Further n b) (pair x) (s.After (p.InPair n b x.key) x.value.terms)
 unfolding run
 pair_run n b x new f = λ us. ap (then_run (λ r. run r (t.Colon ∷ (sum None x.value.terms ++ us)))) (keyed_run n b x.key new) ∙ value_run n b x f us
 
@@ -126,7 +126,7 @@ created_run a n [] f = λ us. refl
 created_run a n (x ∷ xs) f = λ us. pairs_run a n [] x xs f.0 f.1.0 f.1.1 us
 
 -- one pair, of MATCH and MERGE
-single_run : (a : Opening) (n : Option Name) (x : Pair) (r : State) → IsPair None x → step (s.After (p.Pair (a_node a n) [] x.key) x.value.terms) t.RightBrace ≡ Some r → Goes_by (s.Braced (a_node a n)) (parted pair t.Comma (x ∷ []) ++ (t.RightBrace ∷ [])) r
+single_run : (a : Opening) (n : Option Name) (x : Pair) (r : State) → IsPair None x → step (s.After (p.InPair (a_node a n) [] x.key) x.value.terms) t.RightBrace ≡ Some r → Goes_by (s.Braced (a_node a n)) (parted pair t.Comma (x ∷ []) ++ (t.RightBrace ∷ [])) r
 unfolding run
 single_run a n x r f e = λ us.
     let i : (parted pair t.Comma (x ∷ []) ++ (t.RightBrace ∷ [])) ++ us ≡ pair x ++ (t.RightBrace ∷ us) = ap (λ (z : List Token). (z ++ (t.RightBrace ∷ [])) ++ us) (append-nil (pair x)) ∙ append_assoc (pair x) (t.RightBrace ∷ []) us in
@@ -174,25 +174,25 @@ head_run b n (h.Merge a x) na f = braced_head v.Merge n a (x ∷ []) (a_made (h.
 
 -- ---- changes
 
-change_run : (a : Made) (n : Name) (b : List Pair) (x : Pair) → a.name ≡ Some n → IsPair a.name x → Goes_by (s.Setting a b) (change a.name x) (s.After (p.Set a b x.key) x.value.terms)
+change_run : (a : Made) (n : Name) (b : List Pair) (x : Pair) → a.name ≡ Some n → IsPair a.name x → Goes_by (s.Setting a b) (change a.name x) (s.After (p.InSet a b x.key) x.value.terms)
 unfolding run go
 change_run a n b x e f = λ us.
     let i : is_bound a.name n ≡ true = rw e (itself n) in
     let g : change a.name x ++ us ≡ t.Name n ∷ t.Dot ∷ t.Name x.key ∷ t.Equals ∷ (sum a.name x.value.terms ++ us) = ap (λ (z : Option Name). (given z ++ (t.Dot ∷ t.Name x.key ∷ t.Equals ∷ sum a.name x.value.terms)) ++ us) e in
-    ap (run (s.Setting a b)) g ∙ ap (λ (z : Bool). then_run (λ r. run r (t.Dot ∷ t.Name x.key ∷ t.Equals ∷ (sum a.name x.value.terms ++ us))) (when z (s.SetOwned a b))) i ∙ sum_run (p.Set a b x.key) x.value.terms f us
+    ap (run (s.Setting a b)) g ∙ ap (λ (z : Bool). then_run (λ r. run r (t.Dot ∷ t.Name x.key ∷ t.Equals ∷ (sum a.name x.value.terms ++ us))) (when z (s.SetOwned a b))) i ∙ sum_run (p.InSet a b x.key) x.value.terms f us
 
 -- the last change stands before the end or a RETURN: the state behind its sum
 pub record Last (a : Made) (ps : List Pair) (r : State) : Type 0 where
   pub before : List Pair
   pub x : Pair
   pub all : before ++ (x ∷ []) ≡ ps
-  pub is : r ≡ s.After (p.Set a before x.key) x.value.terms
+  pub is : r ≡ s.After (p.InSet a before x.key) x.value.terms
 
 changes_run : (a : Made) (n : Name) (b : List Pair) (x : Pair) (xs : List Pair) → a.name ≡ Some n → IsPair a.name x → Every (IsPair a.name) xs
     → (r : State) × Goes_by (s.Setting a b) (change a.name x ++ further (change a.name) t.Comma xs) r × Last a (b ++ (x ∷ xs)) r
 unfolding run go
 changes_run a n b x [] e f fs = (
-  s.After (p.Set a b x.key) x.value.terms,
+  s.After (p.InSet a b x.key) x.value.terms,
   λ us. ap (λ (z : List Token). run (s.Setting a b) (z ++ us)) (append-nil (change a.name x)) ∙ change_run a n b x e f us,
   record { before = b; x = x; all = refl; is = refl },
 )
@@ -215,32 +215,32 @@ pub record Accepted (o : Option State) (y : Statement) : Type 0 where
 -- behind an item, with its name or not
 pub record Behind (b : Body) (xs : List Item) (x : Item) (r : State) : Type 0 where
   pub last : ends r ≡ Some (a_statement b (l.Items (xs ++ (x ∷ []))))
-  pub comma : step r t.Comma ≡ Some (s.Needs (p.Item b (xs ++ (x ∷ []))) [])
+  pub comma : step r t.Comma ≡ Some (s.Needs (p.InItem b (xs ++ (x ∷ []))) [])
 
-whole_run : (b : Body) (xs : List Item) (n : Option Name) → b.made.name ≡ n → IsBound n → Goes_by (s.Needs (p.Item b xs) []) (given n) (s.Owned (p.Item b xs) [])
+whole_run : (b : Body) (xs : List Item) (n : Option Name) → b.made.name ≡ n → IsBound n → Goes_by (s.Needs (p.InItem b xs) []) (given n) (s.Owned (p.InItem b xs) [])
 unfolding run go
 whole_run b xs None e g = absurd g
 whole_run b xs (Some n) e g = λ us. let k : is_bound b.made.name n ≡ true = rw e (itself n) in rw k refl
 
-item_run : (b : Body) (xs : List Item) (x : Item) → IsItem b.made.name x → (r : State) × Goes_by (s.Needs (p.Item b xs) []) (item b.made.name x) r × Behind b xs x r × (step r t.As ≡ Some (s.Aliasing b xs x))
+item_run : (b : Body) (xs : List Item) (x : Item) → IsItem b.made.name x → (r : State) × Goes_by (s.Needs (p.InItem b xs) []) (item b.made.name x) r × Behind b xs x r × (step r t.As ≡ Some (s.Aliasing b xs x))
 unfolding run go ends
-item_run b xs i.Whole f = (s.Owned (p.Item b xs) [], whole_run b xs b.made.name refl f, record { last = refl; comma = refl }, refl)
-item_run b xs (i.Sum e) f = (s.After (p.Item b xs) e.terms, sum_run (p.Item b xs) e.terms f, record { last = refl; comma = refl }, refl)
+item_run b xs i.Whole f = (s.Owned (p.InItem b xs) [], whole_run b xs b.made.name refl f, record { last = refl; comma = refl }, refl)
+item_run b xs (i.Sum e) f = (s.After (p.InItem b xs) e.terms, sum_run (p.InItem b xs) e.terms f, record { last = refl; comma = refl }, refl)
 
-named_run : (b : Body) (xs : List Item) (x : Item) (a : Option Name) → IsItem b.made.name x → (r : State) × Goes_by (s.Needs (p.Item b xs) []) (item b.made.name x ++ alias a) r × Behind b xs x r
+named_run : (b : Body) (xs : List Item) (x : Item) (a : Option Name) → IsItem b.made.name x → (r : State) × Goes_by (s.Needs (p.InItem b xs) []) (item b.made.name x ++ alias a) r × Behind b xs x r
 unfolding run go ends
 named_run b xs x None f =
     let w = item_run b xs x f in
-    (w.0, (λ us. ap (λ (z : List Token). run (s.Needs (p.Item b xs) []) (z ++ us)) (append-nil (item b.made.name x)) ∙ w.1 us), w.2)
+    (w.0, (λ us. ap (λ (z : List Token). run (s.Needs (p.InItem b xs) []) (z ++ us)) (append-nil (item b.made.name x)) ∙ w.1 us), w.2)
 named_run b xs x (Some a) f =
     let w = item_run b xs x f in (
       s.Aliased b (xs ++ (x ∷ [])),
-      (λ us. ap (run (s.Needs (p.Item b xs) [])) (append_assoc (item b.made.name x) (t.As ∷ t.Name a ∷ []) us) ∙ w.1 (t.As ∷ t.Name a ∷ us) ∙ ap (then_run (λ z. run z (t.Name a ∷ us))) w.3),
+      (λ us. ap (run (s.Needs (p.InItem b xs) [])) (append_assoc (item b.made.name x) (t.As ∷ t.Name a ∷ []) us) ∙ w.1 (t.As ∷ t.Name a ∷ us) ∙ ap (then_run (λ z. run z (t.Name a ∷ us))) w.3),
       record { last = refl; comma = refl },
     )
 
 items_run : (b : Body) (ys : List Item) (x : Named) (xs : List Named) → IsItem b.made.name x.item → Every (IsItem b.made.name) (items_of xs)
-    → Accepted (run (s.Needs (p.Item b ys) []) (named b.made.name x ++ further (named b.made.name) t.Comma xs)) (a_statement b (l.Items (ys ++ (x.item ∷ items_of xs))))
+    → Accepted (run (s.Needs (p.InItem b ys) []) (named b.made.name x ++ further (named b.made.name) t.Comma xs)) (a_statement b (l.Items (ys ++ (x.item ∷ items_of xs))))
 unfolding run
 items_run b ys x [] f fs = let w = named_run b ys x.item x.name f in record { end = w.0; goes = w.1 []; is = w.2.last }
 items_run b ys x (z ∷ zs) f fs =
@@ -274,10 +274,10 @@ abbrev NoOpen : List Token → Type 0
 NoOpen (t.Open ∷ us) = ⊥
 NoOpen _ = Unit {0}
 
-either_run : (b : Body) (us : List Token) (y : Statement) → NoOpen us → Accepted (run (s.Owned (p.Item b []) []) us) y → Accepted (run (s.Either b) us) y
+either_run : (b : Body) (us : List Token) (y : Statement) → NoOpen us → Accepted (run (s.Owned (p.InItem b []) []) us) y → Accepted (run (s.Either b) us) y
 unfolding run go ends
 either_run b [] y f w =
-    let e : s.Owned (p.Item b []) [] ≡ w.end = cc in
+    let e : s.Owned (p.InItem b []) [] ≡ w.end = cc in
     record { end = s.Either b; goes = refl; is = ap ends e ∙ w.is }
 either_run b (t.Open ∷ us) y f w = absurd f
 either_run b (_ ∷ us) y f w = record { end = w.end; goes = w.goes; is = w.is }
@@ -286,16 +286,16 @@ abbrev NoOpenSecond : List Token → Type 0
 NoOpenSecond [] = Unit {0}
 NoOpenSecond (x ∷ us) = NoOpen us
 
-name_first : (b : Body) (x : Name) (us : List Token) (y : Statement) (q z : Bool) → is_bound b.made.name x ≡ q → is_count x ≡ z → NoOpen us → Accepted (then_run (λ r. run r us) (when q (s.Owned (p.Item b []) []))) y → Accepted (then_run (λ r. run r us) (first_name q z b)) y
+name_first : (b : Body) (x : Name) (us : List Token) (y : Statement) (q z : Bool) → is_bound b.made.name x ≡ q → is_count x ≡ z → NoOpen us → Accepted (then_run (λ r. run r us) (when q (s.Owned (p.InItem b []) []))) y → Accepted (then_run (λ r. run r us) (first_name q z b)) y
 name_first b x us y true true eq ez f w = either_run b us y f w
 name_first b x us y true false eq ez f w = w
 name_first b x us y false z eq ez f w = some_state w.end w.goes
 
 -- behind RETURN the first token is read as at an item
-returning_run : (b : Body) (us : List Token) (y : Statement) → NoOpenSecond us → Accepted (run (s.Needs (p.Item b []) []) us) y → Accepted (run (s.Returning b) us) y
+returning_run : (b : Body) (us : List Token) (y : Statement) → NoOpenSecond us → Accepted (run (s.Needs (p.InItem b []) []) us) y → Accepted (run (s.Returning b) us) y
 unfolding run go ends
 returning_run b [] y f w =
-    let e : s.Needs (p.Item b []) [] ≡ w.end = cc in
+    let e : s.Needs (p.InItem b []) [] ≡ w.end = cc in
     some_end y (ap ends e ∙ w.is)
 returning_run b (t.Name x ∷ us) y f w = name_first b x us y (is_bound b.made.name x) (is_count x) refl refl f w
 returning_run b (_ ∷ us) y f w = record { end = w.end; goes = w.goes; is = w.is }
@@ -334,17 +334,17 @@ item_second n (i.Sum e) us g f = sum_second n e.terms us g f
 named_second : (n : Option Name) (x : Named) (us : List Token) → IsItem n x.item → NoOpen us → NoOpenSecond (named n x ++ us)
 named_second n x us g f = subst NoOpenSecond (sym (append_assoc (item n x.item) (alias x.name) us)) (item_second n x.item (alias x.name ++ us) g (alias_no_open x.name us f))
 
-items_named : (b : Body) (ns : List Named) (xs : List Item) → NotEmpty xs → Every (IsItem b.made.name) xs → items_of ns ≡ xs → Accepted (run (s.Needs (p.Item b []) []) (parted (named b.made.name) t.Comma ns)) (a_statement b (l.Items xs)) × NoOpenSecond (parted (named b.made.name) t.Comma ns)
+items_named : (b : Body) (ns : List Named) (xs : List Item) → NotEmpty xs → Every (IsItem b.made.name) xs → items_of ns ≡ xs → Accepted (run (s.Needs (p.InItem b []) []) (parted (named b.made.name) t.Comma ns)) (a_statement b (l.Items xs)) × NoOpenSecond (parted (named b.made.name) t.Comma ns)
 items_named b [] [] ne f e = absurd ne
 items_named b [] (x ∷ xs) ne f e = absurd cc
 items_named b (n ∷ ns) xs ne f e =
     let g : Every (IsItem b.made.name) (n.item ∷ items_of ns) = subst (Every (IsItem b.made.name)) (sym e) f in (
-      subst (λ (z : List Item). Accepted (run (s.Needs (p.Item b []) []) (named b.made.name n ++ further (named b.made.name) t.Comma ns)) (a_statement b (l.Items z))) e (items_run b [] n ns g.0 g.1),
+      subst (λ (z : List Item). Accepted (run (s.Needs (p.InItem b []) []) (named b.made.name n ++ further (named b.made.name) t.Comma ns)) (a_statement b (l.Items z))) e (items_run b [] n ns g.0 g.1),
       named_second b.made.name n (further (named b.made.name) t.Comma ns) g.0 (further_no_open b.made.name ns),
     )
 
 -- the items behind RETURN
-all_items : (b : Body) (o : Choice) (xs : List Item) → IsTail o b.made.name (l.Items xs) → Accepted (run (s.Needs (p.Item b []) []) (parted (named b.made.name) t.Comma o.named)) (a_statement b (l.Items xs)) × NoOpenSecond (parted (named b.made.name) t.Comma o.named)
+all_items : (b : Body) (o : Choice) (xs : List Item) → IsTail o b.made.name (l.Items xs) → Accepted (run (s.Needs (p.InItem b []) []) (parted (named b.made.name) t.Comma o.named)) (a_statement b (l.Items xs)) × NoOpenSecond (parted (named b.made.name) t.Comma o.named)
 all_items b o xs f = items_named b o.named xs f.0 f.1 f.2
 
 -- ---- `count`

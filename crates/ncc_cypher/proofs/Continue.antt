@@ -14,14 +14,14 @@ use Rattle.ncc_cypher.specs.declared.tree.Change.{Change}
 use Rattle.ncc_cypher.specs.declared.tree.Change.TheVariants as c
 use Rattle.ncc_cypher.specs.declared.tree.Statement.{Statement}
 use Rattle.ncc_cypher.specs.declared.class.Class.TheVariants as q
-use Rattle.ncc_cypher.specs.declared.state.Verb.TheVariants as v
-use Rattle.ncc_cypher.specs.declared.state.Node.{Node}
-use Rattle.ncc_cypher.specs.declared.state.Made.{Made}
-use Rattle.ncc_cypher.specs.declared.state.Body.{Body}
-use Rattle.ncc_cypher.specs.declared.state.Place.{Place}
-use Rattle.ncc_cypher.specs.declared.state.Place.TheVariants as p
-use Rattle.ncc_cypher.specs.declared.state.State.{State}
-use Rattle.ncc_cypher.specs.declared.state.State.TheVariants as s
+use Rattle.ncc_cypher.specs.Verb as v
+use Rattle.ncc_cypher.specs.Place.{Node}
+use Rattle.ncc_cypher.specs.Place.{Made}
+use Rattle.ncc_cypher.specs.Place.{Body}
+use Rattle.ncc_cypher.specs.Place.{Place}
+use Rattle.ncc_cypher.specs.Place as p
+use Rattle.ncc_cypher.specs.State.{State}
+use Rattle.ncc_cypher.specs.State as s
 use Rattle.ncc_cypher.specs.Class.{class, is_word}
 use Rattle.ncc_cypher.specs.Lexeme as x
 use Rattle.ncc_cypher.specs.Lexeme.{Writes, Passes}
@@ -81,12 +81,12 @@ abbrev braces : List Token
 braces = t.LeftBrace ∷ t.Name a_name ∷ value
 
 abbrev finish : Place → List Token
-finish (p.Pair n ps k) = t.RightBrace ∷ t.Close ∷ returns
+finish (p.InPair n ps k) = t.RightBrace ∷ t.Close ∷ returns
 finish _ = []
 
 abbrev completion : State → List Token
 completion s.Start = returns
-completion (s.Verb a) = t.Open ∷ t.Colon ∷ t.Name a_name ∷ braces
+completion (s.Begun a) = t.Open ∷ t.Colon ∷ t.Name a_name ∷ braces
 completion (s.Opened a) = t.Colon ∷ t.Name a_name ∷ braces
 completion (s.Called a n) = t.Colon ∷ t.Name a_name ∷ braces
 completion (s.Coloned a n) = t.Name a_name ∷ braces
@@ -136,18 +136,18 @@ count_done b (Some n) e f = let k : is_bound b.made.name n ≡ true = rw e (itse
 
 place_done : (w : Place) (ts : List Term) → (y : Statement) × Read (run (s.After w ts) (finish w)) y
 unfolding run go ends
-place_done (p.Pair n ps k) ts = (_, record { end = _; goes = refl; is = refl })
-place_done (p.Set a ps k) ts = (_, record { end = _; goes = refl; is = refl })
-place_done (p.Item b xs) ts = (_, record { end = _; goes = refl; is = refl })
+place_done (p.InPair n ps k) ts = (_, record { end = _; goes = refl; is = refl })
+place_done (p.InSet a ps k) ts = (_, record { end = _; goes = refl; is = refl })
+place_done (p.InItem b xs) ts = (_, record { end = _; goes = refl; is = refl })
 
 as_done : (x : State) → ((y : Statement) × Read (run x (completion x)) y) → Completed x
 as_done x r = record { statement = r.0; is = r.1 }
 
 completes : (o : Choice) (x : State) → Fine o x → Completed x
 unfolding run go ends
-completes o (s.Verb v.Create) f = as_done (s.Verb v.Create) (_, record { end = _; goes = refl; is = refl })
-completes o (s.Verb v.Find) f = as_done (s.Verb v.Find) (_, record { end = _; goes = refl; is = refl })
-completes o (s.Verb v.Merge) f = as_done (s.Verb v.Merge) (_, record { end = _; goes = refl; is = refl })
+completes o (s.Begun v.Create) f = as_done (s.Begun v.Create) (_, record { end = _; goes = refl; is = refl })
+completes o (s.Begun v.Find) f = as_done (s.Begun v.Find) (_, record { end = _; goes = refl; is = refl })
+completes o (s.Begun v.Merge) f = as_done (s.Begun v.Merge) (_, record { end = _; goes = refl; is = refl })
 completes o (s.Further n ps) f = as_done (s.Further n ps) (_, record { end = _; goes = ap (then_run (λ r. run r value)) (is_keyed n ps); is = refl })
 completes o (s.Needs w ts) f = let d = place_done w (ts ++ (m.Null ∷ [])) in as_done (s.Needs w ts) (d.0, record { end = d.1.end; goes = d.1.goes; is = d.1.is })
 completes o (s.Param w ts) f = let d = place_done w (ts ++ (m.Param a_name ∷ [])) in as_done (s.Param w ts) (d.0, record { end = d.1.end; goes = d.1.goes; is = d.1.is })
@@ -238,9 +238,9 @@ all_braces : All braces
 all_braces = (signs.left, (name_token, all_value))
 
 all_finish : (w : Place) → All (finish w)
-all_finish (p.Pair n ps k) = (signs.right, (signs.close, all_returns))
-all_finish (p.Set a ps k) = tt
-all_finish (p.Item b xs) = tt
+all_finish (p.InPair n ps k) = (signs.right, (signs.close, all_returns))
+all_finish (p.InSet a ps k) = tt
+all_finish (p.InItem b xs) = tt
 
 -- the bound name stands in the head
 node_given : (y : Token) (n a : Option Name) (us : List Token) → All (node y n a ++ us) → All (given n)
@@ -270,7 +270,7 @@ body_given o b us na f = made_given o b.made (changes b.made.name b.change) na (
 
 all_completion : (o : Choice) (y : State) → Fine o y → All (shown o y) → All (completion y)
 all_completion o s.Start f g = all_returns
-all_completion o (s.Verb a) f g = (signs.open_, (signs.colon, (name_token, all_braces)))
+all_completion o (s.Begun a) f g = (signs.open_, (signs.colon, (name_token, all_braces)))
 all_completion o (s.Opened a) f g = (signs.colon, (name_token, all_braces))
 all_completion o (s.Called a n) f g = (signs.colon, (name_token, all_braces))
 all_completion o (s.Coloned a n) f g = (name_token, all_braces)

@@ -1,5 +1,5 @@
 -- `parsed` is what the source spells, or where and how it stops.
-use Rattle.std.specs.Prelude.{◌↔◌}
+use Rattle.std.specs.Prelude.{◌↔◌, IfOk}
 use Rattle.std.proofs.Common.{◌≡◌, ◌≤◌, ◌<◌, ℕ, zero, suc, ◌+◌, ◌-◌, List, [], ◌∷◌, ◌++◌, length, map, Option, Some, None, Result, Ok, Err, refl, sym, ap, subst, ◌∙◌, append_assoc, arith}
 use Rattle.std.proofs.lemmas.List.{append-nil}
 use Rattle.ncc_pack.specs.declared.value.Value.TheVariants as v
@@ -9,8 +9,8 @@ use Rattle.ncc_cypher.specs.declared.error.ParseError.{ParseError}
 use Rattle.ncc_cypher.specs.declared.error.ParseError.TheVariants.{Syntax, Memory}
 use Rattle.ncc_cypher.specs.declared.error.SyntaxKind.{SyntaxKind}
 use Rattle.ncc_cypher.specs.declared.error.SyntaxKind.TheVariants.{BadToken, Unexpected}
-use Rattle.ncc_cypher.specs.declared.state.State.{State}
-use Rattle.ncc_cypher.specs.declared.state.State.TheVariants as s
+use Rattle.ncc_cypher.specs.State.{State}
+use Rattle.ncc_cypher.specs.State as s
 use Rattle.ncc_cypher.specs.Token as k
 use Rattle.ncc_cypher.specs.Token.{Begins, Placed, Tokens, tokens_of, past_blanks}
 use Rattle.ncc_cypher.specs.Scan.{token_at}
@@ -18,7 +18,6 @@ use Rattle.ncc_cypher.specs.Grammar.{Name}
 use Rattle.ncc_cypher.specs.Columns.{columns}
 use Rattle.ncc_cypher.specs.Machine.{step, accepts, then_run, run}
 use Rattle.ncc_cypher.specs.Spelled.{Spelled, Continued, Stopped, StopsHere, IsOrMemory}
-use Rattle.ncc_cypher.specs.Outcome.{Outcome}
 use Rattle.ncc_cypher.specs.Parsed.{Answer, front_by, front, scanned, named_by, ended, goes, whole, at_place, parsed, IsAnswer}
 use Rattle.ncc_cypher.proofs.Sources.{token_begins, none_begins, begins_is, goes_further, same_token, nothing, Left}
 use Rattle.ncc_cypher.proofs.Sound.{then_some}
@@ -176,7 +175,22 @@ stopped source at kind = ((λ e. subst (Is source) e (parsed_is source)), (λ w.
 
 -- ---- for `parse`
 
-pub is_answer : (source : List ℕ) (r : Result Statement ParseError) → Outcome source r → IsAnswer r (parsed source)
-is_answer source (Ok y) w = spelled_by source y (parsed source) (parsed_is source) w
-is_answer source (Err Memory) w = tt
-is_answer source (Err (Syntax at kind)) w = stopped_so source at kind w
+pub is_found : (source : List ℕ) (r : Result Statement ParseError) → IsAnswer r (parsed source) → IfOk r (λ y. Spelled y source)
+is_found source (Ok y) e = (spelled source y).0 e
+is_found source (Err e) x = tt
+
+answer_is : (r : Result Statement ParseError) (a : Answer) (y : Statement) → IsAnswer r a → a ≡ Ok y → IsOrMemory r (Ok y)
+answer_is (Ok z) a y e f = let i : Ok z ≡ Ok y = sym e ∙ f in cc
+answer_is (Err Memory) a y e f = tt
+answer_is (Err (Syntax at kind)) a y e f = absurd (let i : Err (at, kind) ≡ Ok y = sym e ∙ f in cc)
+
+pub is_only : (source : List ℕ) (r : Result Statement ParseError) → IsAnswer r (parsed source) → (y : Statement) → Spelled y source → IsOrMemory r (Ok y)
+is_only source r e y w = answer_is r (parsed source) y e ((spelled source y).1 w)
+
+pub is_refused : (source : List ℕ) (r : Result Statement ParseError) → IsAnswer r (parsed source) → (at : ℕ) (kind : SyntaxKind) → r ≡ Err (Syntax at kind) → Stopped source at kind
+is_refused source (Err (Syntax at kind)) e i k f =
+    let w = (stopped source at kind).0 e in
+    let same : (at ≡ i) × (kind ≡ k) = (cc, cc) in
+    subst (λ (z : ℕ). Stopped source z k) same.0 (subst (λ (z : SyntaxKind). Stopped source at z) same.1 w)
+is_refused source (Ok y) e i k f = absurd cc
+is_refused source (Err Memory) e i k f = absurd cc

@@ -6,15 +6,15 @@ use Rattle.ncc_cypher.specs.declared.token.Token.TheVariants as t
 use Rattle.ncc_cypher.specs.declared.tree.Pair.{Pair}
 use Rattle.ncc_cypher.specs.declared.tree.Head.{Head}
 use Rattle.ncc_cypher.specs.declared.tree.Head.TheVariants as h
-use Rattle.ncc_cypher.specs.declared.state.Verb.{Verb}
-use Rattle.ncc_cypher.specs.declared.state.Verb.TheVariants as v
-use Rattle.ncc_cypher.specs.declared.state.Opening.{Opening}
-use Rattle.ncc_cypher.specs.declared.state.Opening.TheVariants as o
-use Rattle.ncc_cypher.specs.declared.state.Node.{Node}
-use Rattle.ncc_cypher.specs.declared.state.Made.{Made}
-use Rattle.ncc_cypher.specs.declared.state.Place.TheVariants as p
-use Rattle.ncc_cypher.specs.declared.state.State.{State}
-use Rattle.ncc_cypher.specs.declared.state.State.TheVariants as s
+use Rattle.ncc_cypher.specs.Verb.{Verb}
+use Rattle.ncc_cypher.specs.Verb as v
+use Rattle.ncc_cypher.specs.Opening.{Opening}
+use Rattle.ncc_cypher.specs.Opening as o
+use Rattle.ncc_cypher.specs.Place.{Node}
+use Rattle.ncc_cypher.specs.Place.{Made}
+use Rattle.ncc_cypher.specs.Place as p
+use Rattle.ncc_cypher.specs.State.{State}
+use Rattle.ncc_cypher.specs.State as s
 use Rattle.ncc_cypher.specs.Grammar.{Name, Choice, given, pair, node, head, pattern, IsPair, has, ArePairs}
 use Rattle.ncc_cypher.specs.Machine.{when, a_node, a_made, at_start, at_verb, unlabelled, at_opened, opening, at_coloned, bare, at_labelled, no_pair, at_braced, at_further, at_keyed, with_pair, more_pairs, behind_pair, at_closing, then_state, alone}
 use Rattle.ncc_cypher.proofs.Lists.{each_then, each_then_more, parted_last, pairs_more}
@@ -41,14 +41,14 @@ abbrev pub no_items : Choice → Choice
 no_items k = record k { named = [] }
 
 pub start_shows : (k : Choice) (y : Token) (r : State) → at_start y ≡ Some r → Shows k s.Start y r
-start_shows k t.Return r e = goes_to k s.Start t.Return (s.Needs (p.Item alone []) []) r (no_items k) e refl (((tt, tt, refl), tt, refl), tt)
-start_shows k t.Create r e = goes_to k s.Start t.Create (s.Verb v.Create) r k e refl tt
-start_shows k t.Match r e = goes_to k s.Start t.Match (s.Verb v.Find) r k e refl tt
-start_shows k t.Merge r e = goes_to k s.Start t.Merge (s.Verb v.Merge) r k e refl tt
+start_shows k t.Return r e = goes_to k s.Start t.Return (s.Needs (p.InItem alone []) []) r (no_items k) e refl (((tt, tt, refl), tt, refl), tt)
+start_shows k t.Create r e = goes_to k s.Start t.Create (s.Begun v.Create) r k e refl tt
+start_shows k t.Match r e = goes_to k s.Start t.Match (s.Begun v.Find) r k e refl tt
+start_shows k t.Merge r e = goes_to k s.Start t.Merge (s.Begun v.Merge) r k e refl tt
 start_shows k _ r e = never r e
 
-pub verb_shows : (k : Choice) (a : Verb) (y : Token) (r : State) → at_verb a y ≡ Some r → Shows k (s.Verb a) y r
-verb_shows k a t.Open r e = goes_to k (s.Verb a) t.Open (s.Opened a) r k e refl tt
+pub verb_shows : (k : Choice) (a : Verb) (y : Token) (r : State) → at_verb a y ≡ Some r → Shows k (s.Begun a) y r
+verb_shows k a t.Open r e = goes_to k (s.Begun a) t.Open (s.Opened a) r k e refl tt
 verb_shows k a _ r e = never r e
 
 -- a state behind the parenthesis, with the name or none
@@ -122,7 +122,7 @@ further_shows k n ps (t.Name q) r fine e =
 further_shows k n ps _ r fine e = never r e
 
 pub keyed_shows : (k : Choice) (n : Node) (ps : List Pair) (q : Name) (y : Token) (r : State) → Fine k (s.Keyed n ps q) → at_keyed n ps q y ≡ Some r → Shows k (s.Keyed n ps q) y r
-keyed_shows k n ps q t.Colon r fine e = goes_to k (s.Keyed n ps q) t.Colon (s.Needs (p.Pair n ps q) []) r k e (append-nil _ ∙ simp append_assoc) (fine, tt)
+keyed_shows k n ps q t.Colon r fine e = goes_to k (s.Keyed n ps q) t.Colon (s.Needs (p.InPair n ps q) []) r k e (append-nil _ ∙ simp append_assoc) (fine, tt)
 keyed_shows k n ps q _ r fine e = never r e
 
 -- behind a pair: a further one, or the brace

@@ -11,7 +11,8 @@ use Rattle.ncc_cypher.specs.declared.class.Class.{Class}
 use Rattle.ncc_cypher.specs.declared.class.Class.TheVariants.{Letter, Zero, Digit, Minus, Quote, Sign}
 use Rattle.ncc_cypher.specs.Class.{class, is_digit, is_word, escape, is_escape}
 use Rattle.ncc_cypher.specs.Lexeme.{Lexeme, word, number, text, sign, Passes, IsNumber, zero, more, Body, ends, plain, escaped, Writes, a_word, plus, minus, a_text, a_sign, Longest}
-use Rattle.ncc_cypher.specs.Scan.{add, body_at, as_number, as_text, digits_by, digits_at, by_class, lexeme_at}
+use Rattle.ncc_cypher.specs.Scan.{as_number, as_text, digits_by, digits_at, by_class, lexeme_at}
+use Rattle.ncc_cypher.specs.Body.{add, body_at}
 
 -- ---- runs of bytes that pass
 

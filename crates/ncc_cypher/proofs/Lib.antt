@@ -12,9 +12,11 @@ pub mod Sound
 pub mod Complete
 pub mod Sources
 pub mod Continue
-pub mod Marked
+pub mod Ended
 pub mod Answered
 pub mod Exact
+pub mod Ahead
+pub mod Moves
 pub mod Room
 pub mod Printed
 pub mod Glue

@@ -13,9 +13,10 @@ use Rattle.ncc_cypher.specs.Grammar.{Name}
 use Rattle.ncc_cypher.specs.Columns.{between, behind, source_of, name_of, name_if, alias_of, or_source, column, part_at, parts, at_return, columns, room, Within}
 use Rattle.ncc_cypher.specs.Number.{number_of}
 use Rattle.ncc_cypher.specs.Spelled.{Spelled}
-use Rattle.ncc_cypher.specs.Outcome.{Outcome}
+use Rattle.ncc_cypher.specs.Parsed.{parsed, IsAnswer}
+use Rattle.ncc_cypher.proofs.Exact.{is_found}
 use Rattle.ncc_cypher.proofs.Names.{no_int, no_sign, same_word}
-use Rattle.ncc_cypher.proofs.Marked.{alias_more, behind_more, last_what}
+use Rattle.ncc_cypher.proofs.Ended.{alias_more, behind_more, last_what}
 use Rattle.ncc_cypher.proofs.Answered.{blank_front, written_some}
 
 -- ---- a name is no longer than its bytes
@@ -107,6 +108,6 @@ columns_within _ _ _ (k.more bytes rest end x others b o) =
 pub within : (source : List ℕ) (y : Statement) → Spelled y source → Within source y
 within source y w = record { names = columns w.placed; are = w.columns; room = columns_within source w.placed w.end w.tokens }
 
-pub is_within : (source : List ℕ) (r : Result Statement ParseError) → Outcome source r → IfOk r (λ y. Within source y)
-is_within source (Ok y) w = within source y w
+pub is_within : (source : List ℕ) (r : Result Statement ParseError) → IsAnswer r (parsed source) → IfOk r (λ y. Within source y)
+is_within source (Ok y) e = within source y (is_found source (Ok y) e)
 is_within source (Err e) w = tt

@@ -8,8 +8,7 @@ use Rattle.std.proofs.lemmas.List.{append-nil, length-append, length-drop, get_o
 use Rattle.std.proofs.lemmas.List.Sums.{prefix_len_stops, prefix_len-le-length}
 use Rattle.std.proofs.lemmas.Bool.{cases_lt, eqb-true}
 use Rattle.ncc_cypher.specs.Class.{escape, is_escape}
-use Rattle.ncc_cypher.specs.Scan.{body_at, add}
-use Rattle.ncc_cypher.specs.Body.{is_plain, with_front, Ends}
+use Rattle.ncc_cypher.specs.Body.{body_at, add, is_plain, with_front, Ends}
 
 -- ---- where a text may be cut
 

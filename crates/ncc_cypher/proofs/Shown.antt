@@ -8,17 +8,17 @@ use Rattle.ncc_cypher.specs.declared.tree.Head.{Head}
 use Rattle.ncc_cypher.specs.declared.tree.Head.TheVariants as h
 use Rattle.ncc_cypher.specs.declared.tree.Change.TheVariants as d
 use Rattle.ncc_cypher.specs.declared.tree.Statement.{Statement}
-use Rattle.ncc_cypher.specs.declared.state.Verb.{Verb}
-use Rattle.ncc_cypher.specs.declared.state.Verb.TheVariants as v
-use Rattle.ncc_cypher.specs.declared.state.Opening.{Opening}
-use Rattle.ncc_cypher.specs.declared.state.Opening.TheVariants as o
-use Rattle.ncc_cypher.specs.declared.state.Node.{Node}
-use Rattle.ncc_cypher.specs.declared.state.Made.{Made}
-use Rattle.ncc_cypher.specs.declared.state.Body.{Body}
-use Rattle.ncc_cypher.specs.declared.state.Place.{Place}
-use Rattle.ncc_cypher.specs.declared.state.Place.TheVariants as p
-use Rattle.ncc_cypher.specs.declared.state.State.{State}
-use Rattle.ncc_cypher.specs.declared.state.State.TheVariants as s
+use Rattle.ncc_cypher.specs.Verb.{Verb}
+use Rattle.ncc_cypher.specs.Verb as v
+use Rattle.ncc_cypher.specs.Opening.{Opening}
+use Rattle.ncc_cypher.specs.Opening as o
+use Rattle.ncc_cypher.specs.Place.{Node}
+use Rattle.ncc_cypher.specs.Place.{Made}
+use Rattle.ncc_cypher.specs.Place.{Body}
+use Rattle.ncc_cypher.specs.Place.{Place}
+use Rattle.ncc_cypher.specs.Place as p
+use Rattle.ncc_cypher.specs.State.{State}
+use Rattle.ncc_cypher.specs.State as s
 use Rattle.ncc_cypher.specs.Grammar.{Name, Choice, given, term, parted, sum, pair, change, alias, item, named, node, head, pattern, changes, tokens, NotEmpty, Every, IsBound, IsTerm, IsSum, IsItem, IsPair, has, ArePairs, IsHead, IsChange, IsTail, is_count, items_of, Goes, Kind, kind, count, items}
 use Rattle.ncc_cypher.specs.Machine.{scope, a_body}
 use Rattle.ncc_cypher.proofs.Lists.{each_then}
@@ -43,16 +43,16 @@ abbrev pub body_tokens : Choice → Body → List Token
 body_tokens c b = made_tokens c b.made ++ changes b.made.name b.change
 
 abbrev pub so_far : Choice → Place → List Token
-so_far c (p.Pair n ps k) = node_tokens n ++ (t.LeftBrace ∷ (each_then pair t.Comma ps ++ (t.Name k ∷ t.Colon ∷ [])))
-so_far c (p.Set a ps k) = made_tokens c a ++ (t.Set ∷ (each_then (change a.name) t.Comma ps ++ (given a.name ++ (t.Dot ∷ t.Name k ∷ t.Equals ∷ []))))
-so_far c (p.Item b xs) = body_tokens c b ++ (t.Return ∷ each_then (named b.made.name) t.Comma c.named)
+so_far c (p.InPair n ps k) = node_tokens n ++ (t.LeftBrace ∷ (each_then pair t.Comma ps ++ (t.Name k ∷ t.Colon ∷ [])))
+so_far c (p.InSet a ps k) = made_tokens c a ++ (t.Set ∷ (each_then (change a.name) t.Comma ps ++ (given a.name ++ (t.Dot ∷ t.Name k ∷ t.Equals ∷ []))))
+so_far c (p.InItem b xs) = body_tokens c b ++ (t.Return ∷ each_then (named b.made.name) t.Comma c.named)
 
 abbrev pub terms_then : Place → List Term → List Token
 terms_then w ts = each_then (term (scope w)) t.Plus ts
 
 abbrev pub shown : Choice → State → List Token
 shown c s.Start = []
-shown c (s.Verb a) = verb a ∷ []
+shown c (s.Begun a) = verb a ∷ []
 shown c (s.Opened a) = verb a ∷ t.Open ∷ []
 shown c (s.Called a n) = verb a ∷ t.Open ∷ t.Name n ∷ []
 shown c (s.Coloned a n) = verb a ∷ t.Open ∷ (given n ++ (t.Colon ∷ []))
@@ -82,7 +82,7 @@ shown c (s.CountOwned b) = body_tokens c b ++ (t.Return ∷ t.Name c.word ∷ t.
 shown c (s.Counted b) = body_tokens c b ++ (t.Return ∷ t.Name c.word ∷ t.Open ∷ (given b.made.name ++ (t.Close ∷ [])))
 shown c (s.CountAliasing b) = body_tokens c b ++ (t.Return ∷ t.Name c.word ∷ t.Open ∷ (given b.made.name ++ (t.Close ∷ t.As ∷ [])))
 shown c (s.CountAliased b) = body_tokens c b ++ (t.Return ∷ t.Name c.word ∷ t.Open ∷ (given b.made.name ++ (t.Close ∷ alias c.alias)))
-shown c (s.Aliasing b xs x) = so_far c (p.Item b xs) ++ (item b.made.name x ++ (t.As ∷ []))
+shown c (s.Aliasing b xs x) = so_far c (p.InItem b xs) ++ (item b.made.name x ++ (t.As ∷ []))
 shown c (s.Aliased b xs) = body_tokens c b ++ (t.Return ∷ parted (named b.made.name) t.Comma c.named)
 shown c (s.Done y) = tokens c y
 
@@ -112,9 +112,9 @@ abbrev pub FineSet : Choice → Made → List Pair → Type 0
 FineSet c a ps = FineMade c a × IsBound a.name × Every (IsPair a.name) ps
 
 abbrev pub FinePlace : Choice → Place → Type 0
-FinePlace c (p.Pair n ps k) = FineNode n ps × (has k ps ≡ false)
-FinePlace c (p.Set a ps k) = FineSet c a ps
-FinePlace c (p.Item b xs) = FineBody c b items × Every (IsItem b.made.name) xs × (items_of c.named ≡ xs)
+FinePlace c (p.InPair n ps k) = FineNode n ps × (has k ps ≡ false)
+FinePlace c (p.InSet a ps k) = FineSet c a ps
+FinePlace c (p.InItem b xs) = FineBody c b items × Every (IsItem b.made.name) xs × (items_of c.named ≡ xs)
 
 abbrev pub FineTerms : Choice → Place → List Term → Type 0
 FineTerms c w ts = FinePlace c w × Every (IsTerm (scope w)) ts
@@ -154,8 +154,8 @@ Fine c (s.CountOwned b) = FineCount c b
 Fine c (s.Counted b) = FineCount c b
 Fine c (s.CountAliasing b) = FineCount c b
 Fine c (s.CountAliased b) = FineCount c b
-Fine c (s.Aliasing b xs x) = FinePlace c (p.Item b xs) × IsItem b.made.name x
-Fine c (s.Aliased b xs) = FinePlace c (p.Item b xs) × NotEmpty xs
+Fine c (s.Aliasing b xs x) = FinePlace c (p.InItem b xs) × IsItem b.made.name x
+Fine c (s.Aliased b xs) = FinePlace c (p.InItem b xs) × NotEmpty xs
 Fine c (s.Done y) = Right c y × (c.semicolon ≡ true)
 Fine c _ = Unit {0}
 

@@ -12,12 +12,12 @@ use Rattle.ncc_cypher.specs.declared.tree.Head.TheVariants as h
 use Rattle.ncc_cypher.specs.declared.tree.Change.TheVariants as c
 use Rattle.ncc_cypher.specs.declared.tree.Tail.TheVariants as l
 use Rattle.ncc_cypher.specs.declared.tree.Statement.{Statement}
-use Rattle.ncc_cypher.specs.declared.state.Made.{Made}
-use Rattle.ncc_cypher.specs.declared.state.Body.{Body}
-use Rattle.ncc_cypher.specs.declared.state.Place.{Place}
-use Rattle.ncc_cypher.specs.declared.state.Place.TheVariants as p
-use Rattle.ncc_cypher.specs.declared.state.State.{State}
-use Rattle.ncc_cypher.specs.declared.state.State.TheVariants as s
+use Rattle.ncc_cypher.specs.Place.{Made}
+use Rattle.ncc_cypher.specs.Place.{Body}
+use Rattle.ncc_cypher.specs.Place.{Place}
+use Rattle.ncc_cypher.specs.Place as p
+use Rattle.ncc_cypher.specs.State.{State}
+use Rattle.ncc_cypher.specs.State as s
 use Rattle.ncc_cypher.specs.Grammar.{Name, Choice, change, item, named, head, changes, tail, tokens, IsItem, IsPair, Goes, nothing, Spells}
 use Rattle.ncc_cypher.specs.Machine.{when, a_pair, a_sum, a_body, a_statement, is_find, then_state, go, step, ends, accepts, end_of_sum, end_of_name, then_run, run}
 use Rattle.ncc_cypher.proofs.Lists.{parted_last, not_empty, Every_more, items_more}
@@ -28,7 +28,7 @@ use Rattle.ncc_cypher.proofs.Body_shows.{closed_shows, setting_shows, set_owned_
 go_shows : (k : Choice) (x : State) (y : Token) (r : State) → Fine k x → go x y ≡ Some r → Shows k x y r
 unfolding go
 go_shows k s.Start y r f e = start_shows k y r e
-go_shows k (s.Verb a) y r f e = verb_shows k a y r e
+go_shows k (s.Begun a) y r f e = verb_shows k a y r e
 go_shows k (s.Opened a) y r f e = opened_shows k a y r e
 go_shows k (s.Called a n) y r f e = called_shows k a n y r e
 go_shows k (s.Coloned a n) y r f e = coloned_shows k a n y r e
@@ -89,17 +89,17 @@ no_alias k = record k { alias = None }
 abbrev just : Item → Choice → Choice
 just x k = record k { named = record { item = x; name = None } ∷ [] }
 
-items_end : (k : Choice) (b : Body) (xs : List Item) (x : Item) (old : State) (y : Statement) → shown k old ≡ so_far k (p.Item b xs) ++ item b.made.name x → FinePlace k (p.Item b xs) → IsItem b.made.name x → Some (a_statement b (l.Items (xs ++ (x ∷ [])))) ≡ Some y → Ended k old y
+items_end : (k : Choice) (b : Body) (xs : List Item) (x : Item) (old : State) (y : Statement) → shown k old ≡ so_far k (p.InItem b xs) ++ item b.made.name x → FinePlace k (p.InItem b xs) → IsItem b.made.name x → Some (a_statement b (l.Items (xs ++ (x ∷ [])))) ≡ Some y → Ended k old y
 items_end k b xs x old y text fine is e =
     ended_at k (item_named x None k) old (a_statement b (l.Items (xs ++ (x ∷ [])))) y e
     (ap (λ (z : List Token). head k.braces b.made.name b.made.head ++ (changes b.made.name b.change ++ (t.Return ∷ z))) (parted_last (named b.made.name) t.Comma k.named (record { item = x; name = None })) ∙ rw text (simp (append_assoc, append-nil)))
     (fine.0.0, fine.0.1, (not_empty xs x, Every_more (IsItem b.made.name) xs x fine.1 is, items_more k.named (record { item = x; name = None }) ∙ ap (λ (z : List Item). z ++ (x ∷ [])) fine.2), fine.0.2)
 
 name_ends : (k : Choice) (w : Place) (ts : List Term) (y : Statement) → Fine k (s.Owned w ts) → end_of_name w ts ≡ Some y → Ended k (s.Owned w ts) y
-name_ends k (p.Item b xs) [] y f e = items_end k b xs i.Whole (s.Owned (p.Item b xs) []) y refl f.0.0 f.1 e
-name_ends k (p.Item b xs) (x ∷ ts) y f e = no_statement y e
-name_ends k (p.Pair n ps q) ts y f e = no_statement y e
-name_ends k (p.Set a ps q) ts y f e = no_statement y e
+name_ends k (p.InItem b xs) [] y f e = items_end k b xs i.Whole (s.Owned (p.InItem b xs) []) y refl f.0.0 f.1 e
+name_ends k (p.InItem b xs) (x ∷ ts) y f e = no_statement y e
+name_ends k (p.InPair n ps q) ts y f e = no_statement y e
+name_ends k (p.InSet a ps q) ts y f e = no_statement y e
 
 set_nothing : (n : Option Name) (x : Head) (ps : List Pair) → NotAlone x → Goes n x (c.Set ps) nothing
 set_nothing n h.Alone ps f = absurd f
@@ -108,13 +108,13 @@ set_nothing n (h.Find a q) ps f = tt
 set_nothing n (h.Merge a q) ps f = tt
 
 sum_ends : (k : Choice) (w : Place) (ts : List Term) (y : Statement) → Fine k (s.After w ts) → end_of_sum w ts ≡ Some y → Ended k (s.After w ts) y
-sum_ends k (p.Pair n ps q) ts y f e = no_statement y e
-sum_ends k (p.Set a ps q) ts y f e =
+sum_ends k (p.InPair n ps q) ts y f e = no_statement y e
+sum_ends k (p.InSet a ps q) ts y f e =
     let x : Pair = a_pair q ts in
-    ended_at k k (s.After (p.Set a ps q) ts) (a_statement (a_body a (c.Set (ps ++ (x ∷ [])))) l.Nothing) y e
+    ended_at k k (s.After (p.InSet a ps q) ts) (a_statement (a_body a (c.Set (ps ++ (x ∷ [])))) l.Nothing) y e
     (ap (λ (z : List Token). head k.braces a.name a.head ++ ((t.Set ∷ z) ++ [])) (parted_last (change a.name) t.Comma ps x) ∙ simp (append_assoc, append-nil))
     (f.0.0.0, (f.0.1, not_empty ps x, Every_more (IsPair a.name) ps x f.0.2 f.1), tt, set_nothing a.name a.head (ps ++ (x ∷ [])) f.0.0.1)
-sum_ends k (p.Item b xs) ts y f e = items_end k b xs (a_sum ts) (s.After (p.Item b xs) ts) y refl f.0 f.1 e
+sum_ends k (p.InItem b xs) ts y f e = items_end k b xs (a_sum ts) (s.After (p.InItem b xs) ts) y refl f.0 f.1 e
 
 keep_nothing : (n : Option Name) (x : Head) → NotAlone x → is_find x ≡ false → Goes n x c.Keep nothing
 keep_nothing n h.Alone f e = absurd f

@@ -14,11 +14,14 @@ use Rattle.std.proofs.Math.IntN.{neg_ℤ}
 use Rattle.ncc_cypher.specs.declared.class.Class.{Class}
 use Rattle.ncc_cypher.specs.declared.class.Class.TheVariants.{Letter, Zero, Digit, Minus, Quote, Sign}
 use Rattle.ncc_cypher.specs.declared.token.Token.{Token}
+use Rattle.ncc_cypher.specs.declared.token.Token.TheVariants.{Text}
+use Rattle.ncc_cypher.specs.Piece.{value_of, rest_of, HasBody}
 use Rattle.ncc_cypher.specs.Class.{class, is_digit, is_word, is_digit_class, is_word_class, IsDigitClass}
 use Rattle.ncc_cypher.specs.Lexeme.{word, Passes}
 use Rattle.ncc_cypher.specs.Number.{number_of}
 use Rattle.ncc_cypher.specs.Token.{keyword, or_name, sign_of, as_int}
-use Rattle.ncc_cypher.specs.Scan.{digits_at, digits_by, by_class, lexeme_at, token_at, token_of, body_at, as_number, as_text, with_rest}
+use Rattle.ncc_cypher.specs.Scan.{digits_at, digits_by, by_class, lexeme_at, token_at, token_of, as_number, as_text, with_rest}
+use Rattle.ncc_cypher.specs.Body.{body_at}
 use Rattle.ncc_cypher.proofs.Lexemes.{passes_front}
 
 -- at a first byte of a class
@@ -138,6 +141,25 @@ unfolding token_at
 quote_gives bs q r lt e c b =
     let k : class (get_or bs 0 0) ≡ Quote = ap class (sym e) ∙ c in
     ap token_of (at_class bs Quote lt k) ∙ ap (λ (z : ℕ). token_of (as_text (body_at z false (drop 1 bs)))) (sym e) ∙ ap (λ (z : Option (List ℕ × List ℕ)). token_of (as_text z)) (sym b)
+
+text_by : (o : Option (List ℕ × List ℕ)) (rest : List ℕ) → rest_of o ≡ Some rest → Some (Text (value_of o), rest) ≡ token_of (as_text o)
+text_by None rest e = absurd cc
+text_by (Some r) rest e = let i : r.1 ≡ rest = cc in ap (λ (z : List ℕ). Some (Text r.0, z)) (sym i)
+
+none_by : (o : Option (List ℕ × List ℕ)) → rest_of o ≡ None → None ≡ token_of (as_text o)
+none_by None e = refl
+none_by (Some r) e = absurd cc
+
+pub has_body : (o : Option (List ℕ × List ℕ)) (rest : List ℕ) → rest_of o ≡ Some rest → HasBody o
+has_body None rest e = absurd cc
+has_body (Some r) rest e = tt
+
+pub quote_text : (bs : List ℕ) (q : ℕ) (behind rest value : List ℕ) → 0 < length bs → q ≡ get_or bs 0 0 → class q ≡ Quote → behind ≡ drop 1 bs → value ≡ value_of (body_at q false behind) → rest_of (body_at q false (drop 1 bs)) ≡ Some rest → Some (Text value, rest) ≡ token_at bs
+quote_text bs q behind rest value lt e c d v b =
+    ap (λ (z : List ℕ). Some (Text z, rest)) (v ∙ ap (λ (z : List ℕ). value_of (body_at q false z)) d) ∙ text_by (body_at q false (drop 1 bs)) rest b ∙ sym (quote_gives bs q (body_at q false (drop 1 bs)) lt e c refl)
+
+pub quote_none : (bs : List ℕ) (q : ℕ) → 0 < length bs → q ≡ get_or bs 0 0 → class q ≡ Quote → rest_of (body_at q false (drop 1 bs)) ≡ None → None ≡ token_at bs
+quote_none bs q lt e c b = none_by (body_at q false (drop 1 bs)) b ∙ sym (quote_gives bs q (body_at q false (drop 1 bs)) lt e c refl)
 
 pub sign_gives : (bs : List ℕ) (b : ℕ) (o : Option Token) → 0 < length bs → b ≡ get_or bs 0 0 → class b ≡ Sign → o ≡ sign_of b → token_at bs ≡ with_rest o (drop 1 bs)
 unfolding token_at

@@ -15,17 +15,17 @@ use Rattle.ncc_cypher.specs.declared.tree.Change.TheVariants as c
 use Rattle.ncc_cypher.specs.declared.tree.Tail.{Tail}
 use Rattle.ncc_cypher.specs.declared.tree.Tail.TheVariants as l
 use Rattle.ncc_cypher.specs.declared.tree.Statement.{Statement}
-use Rattle.ncc_cypher.specs.declared.state.Verb.{Verb}
-use Rattle.ncc_cypher.specs.declared.state.Verb.TheVariants as v
-use Rattle.ncc_cypher.specs.declared.state.Opening.{Opening}
-use Rattle.ncc_cypher.specs.declared.state.Opening.TheVariants as o
-use Rattle.ncc_cypher.specs.declared.state.Node.{Node}
-use Rattle.ncc_cypher.specs.declared.state.Made.{Made}
-use Rattle.ncc_cypher.specs.declared.state.Body.{Body}
-use Rattle.ncc_cypher.specs.declared.state.Place.{Place}
-use Rattle.ncc_cypher.specs.declared.state.Place.TheVariants as p
-use Rattle.ncc_cypher.specs.declared.state.State.{State}
-use Rattle.ncc_cypher.specs.declared.state.State.TheVariants as s
+use Rattle.ncc_cypher.specs.Verb.{Verb}
+use Rattle.ncc_cypher.specs.Verb as v
+use Rattle.ncc_cypher.specs.Opening.{Opening}
+use Rattle.ncc_cypher.specs.Opening as o
+use Rattle.ncc_cypher.specs.Place.{Node}
+use Rattle.ncc_cypher.specs.Place.{Made}
+use Rattle.ncc_cypher.specs.Place.{Body}
+use Rattle.ncc_cypher.specs.Place.{Place}
+use Rattle.ncc_cypher.specs.Place as p
+use Rattle.ncc_cypher.specs.State.{State}
+use Rattle.ncc_cypher.specs.State as s
 use Rattle.ncc_cypher.specs.Grammar.{Name, has, is_count}
 
 abbrev pub when : {A : Type 0} → Bool → A → Option A
@@ -42,9 +42,9 @@ is_bound (Some n) x = bytes_eq n x
 
 -- the name that a term may speak of
 abbrev pub scope : Place → Option Name
-scope (p.Pair node ps k) = None
-scope (p.Set made ps k) = made.name
-scope (p.Item body xs) = body.made.name
+scope (p.InPair node ps k) = None
+scope (p.InSet made ps k) = made.name
+scope (p.InItem body xs) = body.made.name
 
 abbrev pub a_pair : Name → List Term → Pair
 a_pair k ts = record { key = k; value = record { terms = ts } }
@@ -70,10 +70,10 @@ a_statement b x = record { head = b.made.head; name = b.made.name; change = b.ch
 -- ---- the head
 
 abbrev pub at_start : Token → Option State
-at_start t.Return = Some (s.Needs (p.Item alone []) [])
-at_start t.Create = Some (s.Verb v.Create)
-at_start t.Match = Some (s.Verb v.Find)
-at_start t.Merge = Some (s.Verb v.Merge)
+at_start t.Return = Some (s.Needs (p.InItem alone []) [])
+at_start t.Create = Some (s.Begun v.Create)
+at_start t.Match = Some (s.Begun v.Find)
+at_start t.Merge = Some (s.Begun v.Merge)
 at_start _ = None
 
 abbrev pub at_verb : Verb → Token → Option State
@@ -130,7 +130,7 @@ at_further n ps (t.Name k) = when (not (has k ps)) (s.Keyed n ps k)
 at_further n ps _ = None
 
 abbrev pub at_keyed : Node → List Pair → Name → Token → Option State
-at_keyed n ps k t.Colon = Some (s.Needs (p.Pair n ps k) [])
+at_keyed n ps k t.Colon = Some (s.Needs (p.InPair n ps k) [])
 at_keyed n ps k _ = None
 
 -- a head with its last pair
@@ -177,7 +177,7 @@ at_set_dotted a ps (t.Name k) = Some (s.SetKeyed a ps k)
 at_set_dotted a ps _ = None
 
 abbrev pub at_set_keyed : Made → List Pair → Name → Token → Option State
-at_set_keyed a ps k t.Equals = Some (s.Needs (p.Set a ps k) [])
+at_set_keyed a ps k t.Equals = Some (s.Needs (p.InSet a ps k) [])
 at_set_keyed a ps k _ = None
 
 abbrev pub behind_change : Made → List Pair → Token → Option State
@@ -218,13 +218,13 @@ at_dotted w ts (t.Name x) = Some (s.After w (ts ++ (m.Prop x ∷ [])))
 at_dotted w ts _ = None
 
 abbrev pub behind_item : Body → List Item → Item → Token → Option State
-behind_item b xs y t.Comma = Some (s.Needs (p.Item b (xs ++ (y ∷ []))) [])
+behind_item b xs y t.Comma = Some (s.Needs (p.InItem b (xs ++ (y ∷ []))) [])
 behind_item b xs y t.As = Some (s.Aliasing b xs y)
 behind_item b xs y _ = None
 
 -- behind the bound name alone
 abbrev pub behind_name : Place → List Term → Token → Option State
-behind_name (p.Item b xs) [] x = behind_item b xs i.Whole x
+behind_name (p.InItem b xs) [] x = behind_item b xs i.Whole x
 behind_name _ _ x = None
 
 abbrev pub at_owned : Place → List Term → Token → Option State
@@ -232,9 +232,9 @@ at_owned w ts t.Dot = Some (s.Dotted w ts)
 at_owned w ts x = behind_name w ts x
 
 abbrev pub behind_sum : Place → List Term → Token → Option State
-behind_sum (p.Pair n ps k) ts x = behind_pair n ps (a_pair k ts) x
-behind_sum (p.Set a ps k) ts x = behind_change a (ps ++ (a_pair k ts ∷ [])) x
-behind_sum (p.Item b xs) ts x = behind_item b xs (a_sum ts) x
+behind_sum (p.InPair n ps k) ts x = behind_pair n ps (a_pair k ts) x
+behind_sum (p.InSet a ps k) ts x = behind_change a (ps ++ (a_pair k ts ∷ [])) x
+behind_sum (p.InItem b xs) ts x = behind_item b xs (a_sum ts) x
 
 abbrev pub at_after : Place → List Term → Token → Option State
 at_after w ts t.Plus = Some (s.Needs w ts)
@@ -245,13 +245,13 @@ at_after w ts x = behind_sum w ts x
 -- a word at the first item: whether it is the bound name, and whether it is `count`
 abbrev pub first_name : Bool → Bool → Body → Option State
 first_name true true b = Some (s.Either b)
-first_name true false b = Some (s.Owned (p.Item b []) [])
+first_name true false b = Some (s.Owned (p.InItem b []) [])
 first_name false true b = when (is_some b.made.name) (s.Counting b)
 first_name false false b = None
 
 abbrev pub at_returning : Body → Token → Option State
 at_returning b (t.Name x) = first_name (is_bound b.made.name x) (is_count x) b
-at_returning b x = at_needs (p.Item b []) [] x
+at_returning b x = at_needs (p.InItem b []) [] x
 
 abbrev pub at_counting : Body → Token → Option State
 at_counting b t.Open = Some (s.CountOpened b)
@@ -259,7 +259,7 @@ at_counting b _ = None
 
 abbrev pub at_either : Body → Token → Option State
 at_either b t.Open = Some (s.CountOpened b)
-at_either b x = at_owned (p.Item b []) [] x
+at_either b x = at_owned (p.InItem b []) [] x
 
 abbrev pub at_count_opened : Body → Token → Option State
 at_count_opened b (t.Name x) = when (is_bound b.made.name x) (s.CountOwned b)
@@ -282,7 +282,7 @@ at_aliasing b xs y (t.Name a) = Some (s.Aliased b (xs ++ (y ∷ [])))
 at_aliasing b xs y _ = None
 
 abbrev pub at_aliased : Body → List Item → Token → Option State
-at_aliased b xs t.Comma = Some (s.Needs (p.Item b xs) [])
+at_aliased b xs t.Comma = Some (s.Needs (p.InItem b xs) [])
 at_aliased b xs _ = None
 
 -- ---- all
@@ -290,7 +290,7 @@ at_aliased b xs _ = None
 -- any token but a semicolon
 unfoldable pub go : State → Token → Option State
 go s.Start x = at_start x
-go (s.Verb a) x = at_verb a x
+go (s.Begun a) x = at_verb a x
 go (s.Opened a) x = at_opened a x
 go (s.Called a n) x = unlabelled a (Some n) x
 go (s.Coloned a n) x = at_coloned a n x
@@ -329,12 +329,12 @@ abbrev pub no_find : Made → Option Statement
 no_find a = when (not (is_find a.head)) (a_statement (a_body a c.Keep) l.Nothing)
 
 abbrev pub end_of_sum : Place → List Term → Option Statement
-end_of_sum (p.Pair n ps k) ts = None
-end_of_sum (p.Set a ps k) ts = Some (a_statement (a_body a (c.Set (ps ++ (a_pair k ts ∷ [])))) l.Nothing)
-end_of_sum (p.Item b xs) ts = Some (a_statement b (l.Items (xs ++ (a_sum ts ∷ []))))
+end_of_sum (p.InPair n ps k) ts = None
+end_of_sum (p.InSet a ps k) ts = Some (a_statement (a_body a (c.Set (ps ++ (a_pair k ts ∷ [])))) l.Nothing)
+end_of_sum (p.InItem b xs) ts = Some (a_statement b (l.Items (xs ++ (a_sum ts ∷ []))))
 
 abbrev pub end_of_name : Place → List Term → Option Statement
-end_of_name (p.Item b xs) [] = Some (a_statement b (l.Items (xs ++ (i.Whole ∷ []))))
+end_of_name (p.InItem b xs) [] = Some (a_statement b (l.Items (xs ++ (i.Whole ∷ []))))
 end_of_name _ _ = None
 
 -- the statement that a state ends

@@ -7,8 +7,8 @@ use Rattle.ncc_cypher.specs.declared.error.ParseError.{ParseError}
 use Rattle.ncc_cypher.specs.declared.error.ParseError.TheVariants.{Syntax, Memory}
 use Rattle.ncc_cypher.specs.declared.error.SyntaxKind.{SyntaxKind}
 use Rattle.ncc_cypher.specs.declared.error.SyntaxKind.TheVariants.{BadToken, Unexpected}
-use Rattle.ncc_cypher.specs.declared.state.State.{State}
-use Rattle.ncc_cypher.specs.declared.state.State.TheVariants as s
+use Rattle.ncc_cypher.specs.State.{State}
+use Rattle.ncc_cypher.specs.State as s
 use Rattle.ncc_cypher.specs.Token.{Placed, past_blanks}
 use Rattle.ncc_cypher.specs.Scan.{token_at}
 use Rattle.ncc_cypher.specs.Grammar.{Name}

@@ -6,19 +6,10 @@ use Rattle.std.specs.Str.{IsUtf8}
 use Rattle.ncc_cypher.specs.declared.class.Class.{Class}
 use Rattle.ncc_cypher.specs.declared.class.Class.TheVariants.{Letter, Zero, Digit, Minus, Quote, Sign}
 use Rattle.ncc_cypher.specs.declared.token.Token.{Token}
-use Rattle.ncc_cypher.specs.Class.{class, is_digit, is_word, escape, is_escape}
+use Rattle.ncc_cypher.specs.Body.{body_at}
+use Rattle.ncc_cypher.specs.Class.{class, is_digit, is_word}
 use Rattle.ncc_cypher.specs.Lexeme.{Lexeme, word, number, text, sign}
 use Rattle.ncc_cypher.specs.Token.{meaning}
-
-abbrev pub add : ℕ → Option (List ℕ × List ℕ) → Option (List ℕ × List ℕ)
-add b None = None
-add b (Some r) = Some (b ∷ r.0, r.1)
-
--- a text's value and what follows it, with whether a backslash stands before
-unfoldable pub body_at : ℕ → Bool → List ℕ → Option (List ℕ × List ℕ)
-body_at q escaping [] = None
-body_at q true (e ∷ bs) = if is_escape e then add (escape e) (body_at q false bs) else None
-body_at q false (b ∷ bs) = if b == q then Some ([], bs) else (if b == 92 then body_at q true bs else add b (body_at q false bs))
 
 abbrev pub as_number : Bool → Option (List ℕ × List ℕ) → Option (Lexeme × List ℕ)
 as_number m None = None

@@ -33,3 +33,20 @@ impl From<AllocError> for ParseError {
         ParseError::Memory
     }
 }
+
+/// Why reading stopped: `left` is how many bytes there are from the place on.
+#[derive(Clone, Copy, Debug)]
+pub(crate) enum Fault {
+    Syntax { left: usize, kind: SyntaxKind },
+    Memory,
+}
+
+impl From<AllocError> for Fault {
+    ghost use Rattle.ncc_cypher.specs.declared.error.Fault.TheVariants as f;
+
+    ghost from_gives = { λ _ e. e ≡ f.Memory };
+
+    fn from(_e: AllocError) -> Fault {
+        Fault::Memory
+    }
+}

@@ -1,269 +1,279 @@
-//! Reading heads: CREATE, MATCH and MERGE with their node.
+//! Heads: CREATE, MATCH and MERGE with their node.
+#![tactic(auto, unfolding(crate::specs::Machine::go, crate::specs::Machine::ends, crate::specs::Parsed::whole,
+    crate::specs::Columns::columns, crate::specs::Reading::further_columns))]
 
-ghost use Rattle.std.specs.Prelude.{◌≡◌, ◌++◌, ◌∷◌, [], IfOk};
-ghost use Rattle.ncc_cypher.specs.Machine.{find_only, unlabelled, at_start, at_verb, at_opened, opening, at_coloned, bare, at_labelled, no_pair, at_braced, at_further, at_keyed, with_pair, more_pairs, behind_pair, at_closing};
+ghost use Rattle.std.specs.Prelude.{◌≡◌, ◌++◌, ◌∷◌, [], ℕ, List, Option, OnOk, IfOk, Some, None};
+ghost use Rattle.ncc_cypher.specs.declared.tree.Pair.{Pair};
+ghost use Rattle.ncc_cypher.specs.declared.tree.Head.TheVariants as h;
+ghost use Rattle.ncc_cypher.specs.Grammar.{Name};
+ghost use Rattle.ncc_cypher.specs.Verb.{Verb};
+ghost use Rattle.ncc_cypher.specs.Verb as v;
+ghost use Rattle.ncc_cypher.specs.Opening as o;
+ghost use Rattle.ncc_cypher.specs.Place.{Node};
+ghost use Rattle.ncc_cypher.specs.Place as p;
+ghost use Rattle.ncc_cypher.specs.State as s;
+ghost use Rattle.ncc_cypher.specs.Machine.{a_node, a_made, opening, with_pair};
+ghost use Rattle.ncc_cypher.specs.Reading.{Moves, Fewer, Same, NoPlus, NewKey, NoNameThen, NoLabelThen, NotCreate, called, found};
 
 use crate::draft::Draft;
-use crate::state::{Body, Made, Node, Opening, Place, State, Verb};
+use crate::error::Fault;
+use crate::reader::Reader;
 use crate::token::Token;
-use crate::tree::{Change, Head, Items, Pair, Pairs, Terms};
-use ncc_pack::{Memory, Text};
-use std::alloc::Global;
+use crate::tree::{Head, Pair, Pairs};
+use ncc_pack::{Sequence, Text};
 
-/// The first token.
-pub(crate) fn at_start(alloc: Global, token: Token) -> Option<State>
-    ensures { result ≡ at_start token }
-{
-    match token {
-        Token::Return => {
-            let made = Made {
-                head: Head::Alone,
-                name: None,
-            };
-            let body = Body {
-                made,
-                change: Change::Keep,
-            };
-            let items = Items::new(alloc);
-            Some(State::Needs(Place::Item { body, items }, Terms::new(alloc)))
+impl<'a> Reader<'a> {
+    /// The value of a pair, behind its key.
+    fn pair_value(&mut self, key: Text) -> Result<Pair, Fault>
+        ensures same { OnOk result (Same self.old self.new) }
+        ensures next { OnOk result (NoPlus self.new.token) }
+        ensures fewer { OnOk result (Fewer self.old self.new) }
+        ensures moves { (names : List Name) (n : Node) (ps : List Pair)
+            → Moves names (s.Keyed n ps key) (λ x. s.After (p.InPair n ps x.key) x.value.terms) self.old self.new result }
+    {
+        match &self.token {
+            Some(Token::Colon) => {
+                self.advance();
+                let value = self.sum(&None)?;
+                Ok(Pair { key, value })
+            }
+            _ => Err(self.refused()),
         }
-        Token::Create => Some(State::Verb(Verb::Create)),
-        Token::Match => Some(State::Verb(Verb::Find)),
-        Token::Merge => Some(State::Verb(Verb::Merge)),
-        _ => None,
     }
-}
 
-/// Behind the keyword.
-pub(crate) fn at_verb(verb: Verb, token: Token) -> Option<State>
-    ensures { result ≡ at_verb verb token }
-{
-    match token {
-        Token::Open => Some(State::Opened(verb)),
-        _ => None,
-    }
-}
-
-/// Where no label stands: only MATCH goes on so.
-fn find_only(verb: Verb, state: State) -> Option<State>
-    ensures { result ≡ find_only verb state }
-{
-    match verb {
-        Verb::Find => Some(state),
-        Verb::Create => None,
-        Verb::Merge => None,
-    }
-}
-
-/// Behind the name, or behind the parenthesis where no name stands.
-pub(crate) fn unlabelled(verb: Verb, name: Option<Text>, token: Token) -> Option<State>
-    ensures { result ≡ unlabelled verb name token }
-{
-    match token {
-        Token::Colon => Some(State::Coloned(verb, name)),
-        Token::LeftBrace => {
-            let opening = Opening::Find(None);
-            find_only(verb, State::Braced(Node { opening, name }))
+    /// A pair. `keys` has the pairs before.
+    fn pair(&mut self, keys: &Draft) -> Result<Pair, Fault>
+        ensures same { OnOk result (Same self.old self.new) }
+        ensures next { OnOk result (NoPlus self.new.token) }
+        ensures fewer { OnOk result (Fewer self.old self.new) }
+        ensures moves { (names : List Name) (n : Node)
+            → Moves names (s.Further n keys.now) (λ x. s.After (p.InPair n keys.now x.key) x.value.terms) self.old self.new result }
+    {
+        match &self.token {
+            Some(Token::Name(name)) => {
+                if keys.has(name.as_str()) {
+                    return Err(self.refused());
+                }
+                let key = name.to_text(self.alloc)?;
+                self.advance();
+                self.pair_value(key)
+            }
+            _ => Err(self.refused()),
         }
-        Token::Close => {
-            let head = Head::Find {
-                label: None,
-                pair: None,
-            };
-            find_only(verb, State::Closed(Made { head, name }))
-        }
-        _ => None,
     }
-}
 
-/// Behind the opening parenthesis.
-pub(crate) fn at_opened(verb: Verb, token: Token) -> Option<State>
-    ensures { result ≡ at_opened verb token }
-{
-    match token {
-        Token::Name(name) => Some(State::Called(verb, name)),
-        other => unlabelled(verb, None, other),
-    }
-}
-
-fn opening(verb: Verb, label: Text) -> Opening
-    ensures { result ≡ opening verb label }
-{
-    match verb {
-        Verb::Create => Opening::Create(label),
-        Verb::Find => Opening::Find(Some(label)),
-        Verb::Merge => Opening::Merge(label),
-    }
-}
-
-/// Behind the colon.
-pub(crate) fn at_coloned(verb: Verb, name: Option<Text>, token: Token) -> Option<State>
-    ensures { result ≡ at_coloned verb name token }
-{
-    match token {
-        Token::Name(label) => {
-            let opening = opening(verb, label);
-            Some(State::Labelled(Node { opening, name }))
-        }
-        _ => None,
-    }
-}
-
-/// The head without braces. MERGE needs them.
-fn bare(alloc: Global, opening: Opening) -> Option<Head>
-    ensures { result ≡ bare opening }
-{
-    match opening {
-        Opening::Create(label) => {
-            let pairs = Pairs::new(alloc);
-            Some(Head::Create { label, pairs })
-        }
-        Opening::Find(label) => Some(Head::Find { label, pair: None }),
-        Opening::Merge(_) => None,
-    }
-}
-
-/// Behind the label.
-pub(crate) fn at_labelled(alloc: Global, node: Node, token: Token) -> Option<State>
-    ensures { result ≡ at_labelled node token }
-{
-    match token {
-        Token::LeftBrace => Some(State::Braced(node)),
-        Token::Close => {
-            let Node { opening, name } = node;
-            match bare(alloc, opening) {
-                Some(head) => Some(State::Closed(Made { head, name })),
-                None => None,
+    /// The pairs of CREATE, one or more, and the closing brace.
+    fn pairs(&mut self) -> Result<Pairs, Fault>
+        ensures same { OnOk result (Same self.old self.new) }
+        ensures moves { (names : List Name) (a : Name) (n : Option Name)
+            → Moves names (s.Further (a_node (o.Create a) n) []) (λ ps. s.Closing (a_made (h.Create a ps) n)) self.old self.new result }
+    {
+        let mut draft = Draft::new(self.alloc);
+        loop {
+            let pair = self.pair(&draft)?;
+            draft = draft.with(self.alloc, pair)?;
+            match &self.token {
+                Some(Token::RightBrace) => {
+                    self.advance();
+                    return Ok(draft.into_pairs());
+                }
+                Some(Token::Comma) => self.advance(),
+                _ => return Err(self.refused()),
             }
         }
-        _ => None,
     }
-}
 
-/// The head whose braces hold no pair. Only CREATE may have such.
-fn no_pair(alloc: Global, opening: Opening) -> Option<Head>
-    ensures { result ≡ no_pair opening }
-{
-    match opening {
-        Opening::Create(label) => {
-            let pairs = Pairs::new(alloc);
-            Some(Head::Create { label, pairs })
-        }
-        Opening::Find(_) => None,
-        Opening::Merge(_) => None,
-    }
-}
-
-/// Behind the opening brace.
-pub(crate) fn at_braced(alloc: Global, node: Node, token: Token) -> Option<State>
-    ensures { result ≡ at_braced node token }
-{
-    match token {
-        Token::Name(key) => Some(State::Keyed(node, Draft::new(alloc), key)),
-        Token::RightBrace => {
-            let Node { opening, name } = node;
-            match no_pair(alloc, opening) {
-                Some(head) => Some(State::Closing(Made { head, name })),
-                None => None,
+    /// What stands behind the opening brace of CREATE, up to the closing one.
+    fn braced(&mut self) -> Result<Pairs, Fault>
+        ensures same { OnOk result (Same self.old self.new) }
+        ensures moves { (names : List Name) (a : Name) (n : Option Name)
+            → Moves names (s.Braced (a_node (o.Create a) n)) (λ ps. s.Closing (a_made (h.Create a ps) n)) self.old self.new result }
+    {
+        match &self.token {
+            Some(Token::RightBrace) => {
+                self.advance();
+                Ok(Sequence::new(self.alloc))
             }
+            _ => self.pairs(),
         }
-        _ => None,
     }
-}
 
-/// A further key, which no pair may have yet.
-pub(crate) fn at_further(node: Node, draft: Draft, token: Token) -> Option<State>
-    ensures { result ≡ at_further node draft token }
-{
-    match token {
-        Token::Name(key) => {
-            if draft.has(key.as_str()) {
-                None
-            } else {
-                Some(State::Keyed(node, draft, key))
+    /// What stands behind the label of CREATE.
+    fn properties(&mut self) -> Result<Pairs, Fault>
+        ensures same { OnOk result (Same self.old self.new) }
+        ensures moves { (names : List Name) (a : Name) (n : Option Name)
+            → Moves names (s.Labelled (a_node (o.Create a) n)) (λ ps. s.Closed (a_made (h.Create a ps) n)) self.old self.new result }
+    {
+        match &self.token {
+            Some(Token::Close) => {
+                self.advance();
+                Ok(Sequence::new(self.alloc))
             }
+            Some(Token::LeftBrace) => {
+                self.advance();
+                let pairs = self.braced()?;
+                match &self.token {
+                    Some(Token::Close) => {
+                        self.advance();
+                        Ok(pairs)
+                    }
+                    _ => Err(self.refused()),
+                }
+            }
+            _ => Err(self.refused()),
         }
-        _ => None,
     }
-}
 
-/// Behind a key.
-pub(crate) fn at_keyed(
-    alloc: Global,
-    node: Node,
-    draft: Draft,
-    key: Text,
-    token: Token,
-) -> Option<State>
-    ensures { result ≡ at_keyed node draft key token }
-{
-    match token {
-        Token::Colon => Some(State::Needs(Place::Pair { node, draft, key }, Terms::new(alloc))),
-        _ => None,
-    }
-}
-
-/// The head with its last pair.
-fn with_pair(opening: Opening, draft: Draft, pair: Pair) -> Result<Head, Memory>
-    ensures { IfOk result (λ h. h ≡ with_pair opening draft pair) }
-{
-    match opening {
-        Opening::Create(label) => {
-            let mut pairs = draft.into_pairs();
-            pairs.push(pair)?;
-            Ok(Head::Create { label, pairs })
+    /// The one pair of MATCH or MERGE behind the opening brace, and the closing brace and parenthesis.
+    fn single(&mut self) -> Result<Pair, Fault>
+        ensures same { OnOk result (Same self.old self.new) }
+        ensures moves { (names : List Name) (n : Node) → NotCreate n.opening
+            → Moves names (s.Braced n) (λ x. s.Closed (a_made (with_pair n.opening [] x) n.name)) self.old self.new result }
+    {
+        let pair = self.pair(&Draft::new(self.alloc))?;
+        match &self.token {
+            Some(Token::RightBrace) => {
+                self.advance();
+                match &self.token {
+                    Some(Token::Close) => {
+                        self.advance();
+                        Ok(pair)
+                    }
+                    _ => Err(self.refused()),
+                }
+            }
+            _ => Err(self.refused()),
         }
-        Opening::Find(label) => {
-            let pair = Some(pair);
-            Ok(Head::Find { label, pair })
-        }
-        Opening::Merge(label) => Ok(Head::Merge { label, pair }),
     }
-}
 
-/// Behind a comma behind a pair, which only CREATE has.
-fn more_pairs(alloc: Global, node: Node, draft: Draft, pair: Pair) -> Result<Option<State>, Memory>
-    ensures { IfOk result (λ r. r ≡ more_pairs node.opening (State.Further node (draft ++ pair ∷ []))) }
-{
-    let Node { opening, name } = node;
-    match opening {
-        Opening::Create(label) => {
-            let opening = Opening::Create(label);
-            let draft = draft.with(alloc, pair)?;
-            Ok(Some(State::Further(Node { opening, name }, draft)))
+    /// The parenthesis behind the keyword, and the name, where one stands.
+    fn node_name(&mut self) -> Result<Option<Text>, Fault>
+        ensures same { OnOk result (Same self.old self.new) }
+        ensures next { IfOk result (λ n. NoNameThen n self.new.token) }
+        ensures moves { (names : List Name) (a : Verb) → Moves names (s.Begun a) (λ n. called a n) self.old self.new result }
+    {
+        match &self.token {
+            Some(Token::Open) => {
+                self.advance();
+                match &self.token {
+                    Some(Token::Name(name)) => {
+                        let name = name.to_text(self.alloc)?;
+                        self.advance();
+                        Ok(Some(name))
+                    }
+                    _ => Ok(None),
+                }
+            }
+            _ => Err(self.refused()),
         }
-        Opening::Find(_) => Ok(None),
-        Opening::Merge(_) => Ok(None),
     }
-}
 
-/// Behind the value of a pair.
-pub(crate) fn behind_pair(
-    alloc: Global,
-    node: Node,
-    draft: Draft,
-    pair: Pair,
-    token: Token,
-) -> Result<Option<State>, Memory>
-    ensures { IfOk result (λ r. r ≡ behind_pair node draft pair token) }
-{
-    match token {
-        Token::RightBrace => {
-            let Node { opening, name } = node;
-            let head = with_pair(opening, draft, pair)?;
-            Ok(Some(State::Closing(Made { head, name })))
+    /// The label behind the colon.
+    fn label(&mut self) -> Result<Text, Fault>
+        ensures same { OnOk result (Same self.old self.new) }
+        ensures moves { (names : List Name) (a : Verb) (n : Option Name)
+            → Moves names (s.Coloned a n) (λ x. s.Labelled (a_node (opening a x) n)) self.old self.new result }
+    {
+        match &self.token {
+            Some(Token::Name(name)) => {
+                let label = name.to_text(self.alloc)?;
+                self.advance();
+                Ok(label)
+            }
+            _ => Err(self.refused()),
         }
-        Token::Comma => more_pairs(alloc, node, draft, pair),
-        _ => Ok(None),
     }
-}
 
-/// Behind the closing brace.
-pub(crate) fn at_closing(made: Made, token: Token) -> Option<State>
-    ensures { result ≡ at_closing made token }
-{
-    match token {
-        Token::Close => Some(State::Closed(made)),
-        _ => None,
+    /// The colon and the label of CREATE or MERGE.
+    fn wanted_label(&mut self, name: &Option<Text>) -> Result<Text, Fault>
+        requires { NoNameThen name.now self.old.token }
+        ensures same { OnOk result (Same self.old self.new) }
+        ensures created { (names : List Name) → Moves names (called v.Create name.now)
+            (λ x. s.Labelled (a_node (o.Create x) name.now)) self.old self.new result }
+        ensures merged { (names : List Name) → Moves names (called v.Merge name.now)
+            (λ x. s.Labelled (a_node (o.Merge x) name.now)) self.old self.new result }
+    {
+        match &self.token {
+            Some(Token::Colon) => {
+                self.advance();
+                self.label()
+            }
+            _ => Err(self.refused()),
+        }
+    }
+
+    /// The label of MATCH, where one stands.
+    fn found_label(&mut self, name: &Option<Text>) -> Result<Option<Text>, Fault>
+        requires { NoNameThen name.now self.old.token }
+        ensures same { OnOk result (Same self.old self.new) }
+        ensures next { IfOk result (λ x. NoLabelThen name.now x self.new.token) }
+        ensures moves { (names : List Name) → Moves names (called v.Find name.now) (λ x. found name.now x) self.old self.new result }
+    {
+        match &self.token {
+            Some(Token::Colon) => {
+                self.advance();
+                Ok(Some(self.label()?))
+            }
+            _ => Ok(None),
+        }
+    }
+
+    /// The pair of MATCH, where one stands, and the closing parenthesis.
+    fn found_pair(&mut self, name: &Option<Text>, label: &Option<Text>) -> Result<Option<Pair>, Fault>
+        requires { NoLabelThen name.now label.now self.old.token }
+        ensures same { OnOk result (Same self.old self.new) }
+        ensures moves { (names : List Name)
+            → Moves names (found name.now label.now) (λ x. s.Closed (a_made (h.Find label.now x) name.now)) self.old self.new result }
+    {
+        match &self.token {
+            Some(Token::Close) => {
+                self.advance();
+                Ok(None)
+            }
+            Some(Token::LeftBrace) => {
+                self.advance();
+                Ok(Some(self.single()?))
+            }
+            _ => Err(self.refused()),
+        }
+    }
+
+    /// CREATE behind its keyword, with the name that it binds.
+    pub(crate) fn create(&mut self) -> Result<(Head, Option<Text>), Fault>
+        ensures same { OnOk result (Same self.old self.new) }
+        ensures moves { (names : List Name) → Moves names (s.Begun v.Create) (λ r. s.Closed (a_made r.0 r.1)) self.old self.new result }
+    {
+        let name = self.node_name()?;
+        let label = self.wanted_label(&name)?;
+        let pairs = self.properties()?;
+        Ok((Head::Create { label, pairs }, name))
+    }
+
+    /// MATCH behind its keyword.
+    pub(crate) fn find(&mut self) -> Result<(Head, Option<Text>), Fault>
+        ensures same { OnOk result (Same self.old self.new) }
+        ensures moves { (names : List Name) → Moves names (s.Begun v.Find) (λ r. s.Closed (a_made r.0 r.1)) self.old self.new result }
+    {
+        let name = self.node_name()?;
+        let label = self.found_label(&name)?;
+        let pair = self.found_pair(&name, &label)?;
+        Ok((Head::Find { label, pair }, name))
+    }
+
+    /// MERGE behind its keyword.
+    pub(crate) fn merge(&mut self) -> Result<(Head, Option<Text>), Fault>
+        ensures same { OnOk result (Same self.old self.new) }
+        ensures moves { (names : List Name) → Moves names (s.Begun v.Merge) (λ r. s.Closed (a_made r.0 r.1)) self.old self.new result }
+    {
+        let name = self.node_name()?;
+        let label = self.wanted_label(&name)?;
+        match &self.token {
+            Some(Token::LeftBrace) => {
+                self.advance();
+                let pair = self.single()?;
+                Ok((Head::Merge { label, pair }, name))
+            }
+            _ => Err(self.refused()),
+        }
     }
 }

@@ -10,15 +10,13 @@ ghost use Rattle.ncc_cypher.specs.Scan.{digits_at, token_at, read, RestIsText};
 use crate::class::{Class, class_of};
 use crate::number::{minus_number, plain_number};
 use crate::slice::{before, past};
-use crate::text::text_of;
-use crate::token::Token;
+use crate::text::past_body;
+use crate::token::{Piece, Quoted, Token};
 use crate::word::{digits_split, word_split};
-use ncc_pack::{Memory, Text};
-use std::alloc::Global;
 
 /// The keyword that a word is, in any case.
 #[tactic(auto, unfolding(crate::specs::Token::keyword))]
-fn keyword(word: &str) -> Option<Token>
+fn keyword<'a>(word: &str) -> Option<Token<'a>>
     ensures { result ≡ keyword word.now }
 {
     if word.eq_ignore_ascii_case("create") {
@@ -47,18 +45,18 @@ fn keyword(word: &str) -> Option<Token>
 }
 
 /// The token that a word is.
-fn word_token(alloc: Global, word: &str) -> Result<Token, Memory>
-    ensures { IfOk result (λ t. t ≡ or_name word.now (keyword word.now)) }
+fn word_token<'a>(word: &'a str) -> Token<'a>
+    ensures { result ≡ or_name word.now (keyword word.now) }
 {
     match keyword(word) {
-        Some(token) => Ok(token),
-        None => Ok(Token::Name(Text::from_str(alloc, word)?)),
+        Some(token) => token,
+        None => Token::Name(Piece::new(word)),
     }
 }
 
 /// The token of a sign.
 #[tactic(auto, unfolding(crate::specs::Token::sign_of))]
-fn sign_of(byte: u8) -> Option<Token>
+fn sign_of<'a>(byte: u8) -> Option<Token<'a>>
     ensures { result ≡ sign_of byte }
 {
     match byte {
@@ -96,7 +94,7 @@ fn digits_front(text: &str) -> (&str, &str)
 }
 
 /// The integer at the front, where its first byte is a digit.
-fn number_at<'a>(text: &'a str) -> Option<(Token, &'a str)>
+fn number_at<'a>(text: &'a str) -> Option<(Token<'a>, &'a str)>
     requires some { 0 < length text.now }
     requires digit { IsDigitClass (class (slice_index text.now 0)) }
     ensures token { read result ≡ token_at text.now }
@@ -113,7 +111,7 @@ fn number_at<'a>(text: &'a str) -> Option<(Token, &'a str)>
 }
 
 /// The integer at the front, where its first byte is a minus.
-fn minus_at<'a>(text: &'a str) -> Option<(Token, &'a str)>
+fn minus_at<'a>(text: &'a str) -> Option<(Token<'a>, &'a str)>
     requires some { 0 < length text.now }
     requires minus { class (slice_index text.now 0) ≡ Minus }
     ensures token { read result ≡ token_at text.now }
@@ -130,59 +128,52 @@ fn minus_at<'a>(text: &'a str) -> Option<(Token, &'a str)>
 }
 
 /// The keyword or name at the front.
-fn word_at<'a>(alloc: Global, text: &'a str) -> Result<(Token, &'a str), Memory>
+fn word_at<'a>(text: &'a str) -> (Token<'a>, &'a str)
     requires some { 0 < length text.now }
     requires letter { class (slice_index text.now 0) ≡ Letter }
-    ensures token { IfOk result (λ r. token_at text.now ≡ Some (r.0, r.1.now)) }
-    ensures rest { IfOk result (λ r. RestIsText (Some r)) }
+    ensures token { token_at text.now ≡ Some (result.0, result.1.now) }
+    ensures rest { RestIsText (Some result) }
 {
     let (word, rest) = word_split(text);
-    let token = word_token(alloc, word)?;
-    Ok((token, rest))
+    (word_token(word), rest)
 }
 
 /// The text at the front, where its first byte is a quote.
-fn quoted_at<'a>(
-    alloc: Global,
-    quote: u8,
-    text: &'a str,
-) -> Result<Option<(Token, &'a str)>, Memory>
+fn quoted_at<'a>(quote: u8, text: &'a str) -> Option<(Token<'a>, &'a str)>
     requires some { 0 < length text.now }
     requires first { quote ≡ slice_index text.now 0 }
     requires quote { class quote ≡ Quote }
-    ensures token { IfOk result (λ r. read r ≡ token_at text.now) }
-    ensures rest { IfOk result (λ r. RestIsText r) }
+    ensures token { read result ≡ token_at text.now }
+    ensures rest { RestIsText result }
 {
-    match text_of(alloc, quote, past(text))? {
-        Some((value, rest)) => Ok(Some((Token::Text(value), rest))),
-        None => Ok(None),
+    let body = past(text);
+    match past_body(quote, body) {
+        Some(rest) => Some((Token::Text(Quoted::new(quote, body)), rest)),
+        None => None,
     }
 }
 
 /// The token that the text begins with, and what follows it.
-pub(crate) fn token_at<'a>(alloc: Global, text: &'a str) -> Result<Option<(Token, &'a str)>, Memory>
-    ensures token { IfOk result (λ r. read r ≡ token_at text.now) }
-    ensures rest { IfOk result (λ r. RestIsText r) }
+pub(crate) fn token_at<'a>(text: &'a str) -> Option<(Token<'a>, &'a str)>
+    ensures token { read result ≡ token_at text.now }
+    ensures rest { RestIsText result }
 {
     let bytes = text.as_bytes();
     if bytes.is_empty() {
-        return Ok(None);
+        return None;
     }
     let first = bytes[0];
     match class_of(first) {
-        Class::Letter => {
-            let (token, rest) = word_at(alloc, text)?;
-            Ok(Some((token, rest)))
-        }
-        Class::Zero => Ok(number_at(text)),
-        Class::Digit => Ok(number_at(text)),
-        Class::Minus => Ok(minus_at(text)),
-        Class::Quote => quoted_at(alloc, first, text),
+        Class::Letter => Some(word_at(text)),
+        Class::Zero => number_at(text),
+        Class::Digit => number_at(text),
+        Class::Minus => minus_at(text),
+        Class::Quote => quoted_at(first, text),
         Class::Sign => match sign_of(first) {
-            Some(token) => Ok(Some((token, past(text)))),
-            None => Ok(None),
+            Some(token) => Some((token, past(text))),
+            None => None,
         },
-        Class::Blank => Ok(None),
-        Class::Other => Ok(None),
+        Class::Blank => None,
+        Class::Other => None,
     }
 }

@@ -1,21 +1,18 @@
 //! Statements of the served part of Cypher: reading them from a source, and printing them.
 #![tactic(auto)]
 
-mod change;
 mod class;
-mod count;
 mod draft;
 mod error;
 mod head;
+mod item;
 mod laws;
 mod lex;
-mod marks;
 mod number;
 mod printing;
+mod reader;
 mod reading;
 mod slice;
-mod state;
-mod step;
 mod sum;
 mod text;
 mod token;

@@ -3,9 +3,10 @@
 ghost use Rattle.std.specs.Prelude.{◌≡◌, ◌∷◌, [], false, true, IfOk, MatchOption, ◌==◌, ◌<◌, length, slice_index};
 ghost use Rattle.std.specs.List.{prefix_len};
 ghost use Rattle.ncc_cypher.specs.Class.{escape, is_escape};
-ghost use Rattle.ncc_cypher.specs.Scan.{body_at, read, RestIsText};
-ghost use Rattle.ncc_cypher.specs.Body.{is_plain};
+ghost use Rattle.ncc_cypher.specs.Scan.{read, RestIsText};
+ghost use Rattle.ncc_cypher.specs.Body.{body_at, is_plain};
 ghost use Rattle.ncc_cypher.specs.Stops.{StopsAt};
+ghost use Rattle.ncc_cypher.specs.Piece.{rest_of, rest_read, BehindIsText};
 
 use crate::slice::{past, plain_split};
 use ncc_pack::{Memory, Text};
@@ -86,6 +87,23 @@ pub(crate) fn text_of<'a>(
                 rest = behind;
             }
             Stop::Bad => return Ok(None),
+        }
+    }
+}
+
+/// What follows the closing quote of a text.
+pub(crate) fn past_body<'a>(quote: u8, text: &'a str) -> Option<&'a str>
+    requires { quote < 92 }
+    ensures value { rest_read result ≡ rest_of (body_at quote false text.now) }
+    ensures rest { BehindIsText result }
+{
+    let mut rest = text;
+    loop {
+        let (_, after) = plain_split(quote, rest);
+        match stop_at(quote, after) {
+            Stop::Quote(behind) => return Some(behind),
+            Stop::Escape(_, behind) => rest = behind,
+            Stop::Bad => return None,
         }
     }
 }

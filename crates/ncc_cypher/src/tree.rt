@@ -1,10 +1,8 @@
 //! Statements.
 
-ghost use Rattle.std.specs.Prelude.{◌≡◌, ◌++◌, ◌∷◌, [], length, IfOk, OnOk, OnErr, IsTrue, ◌↔◌, Option};
+ghost use Rattle.std.specs.Prelude.{◌≡◌, IfOk};
 
-use ncc_pack::{Memory, Text, Values};
-use std::alloc::Global;
-use std::marker::Model;
+use ncc_pack::{Copied, Memory, Sequence, Text, Values};
 
 /// A term of a sum.
 #[derive(Debug, Drop)]
@@ -22,7 +20,7 @@ pub enum Term {
 impl Term {
     /// An equal value.
     pub fn copy(&self) -> Result<Term, Memory>
-        ensures { IfOk result (λ t. t ≡ self.now) }
+        ensures equal { IfOk result (λ copy. copy ≡ self.now) }
     {
         match self {
             Term::Null => Ok(Term::Null),
@@ -35,72 +33,14 @@ impl Term {
     }
 }
 
+impl Copied for Term {
+    fn copy(&self) -> Result<Term, Memory> {
+        Term::copy(self)
+    }
+}
+
 /// A list of terms.
-#[derive(Debug, Drop)]
-pub struct Terms {
-    inner: Vec<Term>,
-}
-
-impl Model for Terms {
-    ghost use Rattle.std.specs.Prelude.{List};
-    ghost use Rattle.ncc_cypher.specs.declared.tree.Term.{Term};
-
-    ghost Value = { List Term };
-
-    ghost view = { λ t. t.inner.items };
-}
-
-impl Terms {
-    /// No terms. It takes no memory.
-    pub fn new(alloc: Global) -> Terms
-        ensures { result ≡ [] }
-    {
-        Terms {
-            inner: Vec::new(alloc),
-        }
-    }
-
-    /// The terms as a slice.
-    pub fn as_slice(&self) -> &[Term]
-        ensures { result.now ≡ self.now }
-    {
-        self.inner.as_slice()
-    }
-
-    /// How many terms there are.
-    pub fn len(&self) -> usize
-        ensures { result ≡ length self.now }
-    {
-        self.inner.len()
-    }
-
-    /// Says whether there are none.
-    pub fn is_empty(&self) -> bool
-        ensures { IsTrue result ↔ (self.now ≡ []) }
-    {
-        self.inner.is_empty()
-    }
-
-    /// Appends a term. An `Err` changes nothing.
-    pub fn push(&mut self, term: Term) -> Result<(), Memory>
-        ensures ok { OnOk result (self.new ≡ self.old ++ term ∷ []) }
-        ensures err { OnErr result (self.new ≡ self.old) }
-    {
-        self.inner.push(term)?;
-        Ok(())
-    }
-
-    /// An equal value, on the same allocator.
-    pub fn copy(&self) -> Result<Terms, Memory>
-        ensures { IfOk result (λ t. t ≡ self.now) }
-    {
-        let mut copy = Terms::new(*self.inner.allocator());
-        for term in self.as_slice() {
-            copy.push(term.copy()?)?;
-        }
-        Ok(copy)
-    }
-}
+pub type Terms = Sequence<Term>;
 
 /// A sum of one or more terms.
 #[derive(Debug, Drop)]
@@ -111,10 +51,16 @@ pub struct Expr {
 impl Expr {
     /// An equal value.
     pub fn copy(&self) -> Result<Expr, Memory>
-        ensures { IfOk result (λ e. e ≡ self.now) }
+        ensures equal { IfOk result (λ copy. copy ≡ self.now) }
     {
         let terms = self.terms.copy()?;
         Ok(Expr { terms })
+    }
+}
+
+impl Copied for Expr {
+    fn copy(&self) -> Result<Expr, Memory> {
+        Expr::copy(self)
     }
 }
 
@@ -128,7 +74,7 @@ pub struct Pair {
 impl Pair {
     /// An equal value.
     pub fn copy(&self) -> Result<Pair, Memory>
-        ensures { IfOk result (λ p. p ≡ self.now) }
+        ensures equal { IfOk result (λ copy. copy ≡ self.now) }
     {
         let key = self.key.copy()?;
         let value = self.value.copy()?;
@@ -136,72 +82,14 @@ impl Pair {
     }
 }
 
+impl Copied for Pair {
+    fn copy(&self) -> Result<Pair, Memory> {
+        Pair::copy(self)
+    }
+}
+
 /// A list of pairs.
-#[derive(Debug, Drop)]
-pub struct Pairs {
-    inner: Vec<Pair>,
-}
-
-impl Model for Pairs {
-    ghost use Rattle.std.specs.Prelude.{List};
-    ghost use Rattle.ncc_cypher.specs.declared.tree.Pair.{Pair};
-
-    ghost Value = { List Pair };
-
-    ghost view = { λ p. p.inner.items };
-}
-
-impl Pairs {
-    /// No pairs. It takes no memory.
-    pub fn new(alloc: Global) -> Pairs
-        ensures { result ≡ [] }
-    {
-        Pairs {
-            inner: Vec::new(alloc),
-        }
-    }
-
-    /// The pairs as a slice.
-    pub fn as_slice(&self) -> &[Pair]
-        ensures { result.now ≡ self.now }
-    {
-        self.inner.as_slice()
-    }
-
-    /// How many pairs there are.
-    pub fn len(&self) -> usize
-        ensures { result ≡ length self.now }
-    {
-        self.inner.len()
-    }
-
-    /// Says whether there are none.
-    pub fn is_empty(&self) -> bool
-        ensures { IsTrue result ↔ (self.now ≡ []) }
-    {
-        self.inner.is_empty()
-    }
-
-    /// Appends a pair. An `Err` changes nothing.
-    pub fn push(&mut self, pair: Pair) -> Result<(), Memory>
-        ensures ok { OnOk result (self.new ≡ self.old ++ pair ∷ []) }
-        ensures err { OnErr result (self.new ≡ self.old) }
-    {
-        self.inner.push(pair)?;
-        Ok(())
-    }
-
-    /// An equal value, on the same allocator.
-    pub fn copy(&self) -> Result<Pairs, Memory>
-        ensures { IfOk result (λ p. p ≡ self.now) }
-    {
-        let mut copy = Pairs::new(*self.inner.allocator());
-        for pair in self.as_slice() {
-            copy.push(pair.copy()?)?;
-        }
-        Ok(copy)
-    }
-}
+pub type Pairs = Sequence<Pair>;
 
 /// An item of RETURN: the bound node as a whole, or a sum.
 #[derive(Debug, Drop)]
@@ -213,7 +101,7 @@ pub enum Item {
 impl Item {
     /// An equal value.
     pub fn copy(&self) -> Result<Item, Memory>
-        ensures { IfOk result (λ i. i ≡ self.now) }
+        ensures equal { IfOk result (λ copy. copy ≡ self.now) }
     {
         match self {
             Item::Whole => Ok(Item::Whole),
@@ -222,88 +110,21 @@ impl Item {
     }
 }
 
+impl Copied for Item {
+    fn copy(&self) -> Result<Item, Memory> {
+        Item::copy(self)
+    }
+}
+
 /// A list of items.
-#[derive(Debug, Drop)]
-pub struct Items {
-    inner: Vec<Item>,
-}
+pub type Items = Sequence<Item>;
 
-impl Model for Items {
-    ghost use Rattle.std.specs.Prelude.{List};
-    ghost use Rattle.ncc_cypher.specs.declared.tree.Item.{Item};
-
-    ghost Value = { List Item };
-
-    ghost view = { λ i. i.inner.items };
-}
-
-impl Items {
-    /// No items. It takes no memory.
-    pub fn new(alloc: Global) -> Items
-        ensures { result ≡ [] }
-    {
-        Items {
-            inner: Vec::new(alloc),
-        }
-    }
-
-    /// The items as a slice.
-    pub fn as_slice(&self) -> &[Item]
-        ensures { result.now ≡ self.now }
-    {
-        self.inner.as_slice()
-    }
-
-    /// How many items there are.
-    pub fn len(&self) -> usize
-        ensures { result ≡ length self.now }
-    {
-        self.inner.len()
-    }
-
-    /// Says whether there are none.
-    pub fn is_empty(&self) -> bool
-        ensures { IsTrue result ↔ (self.now ≡ []) }
-    {
-        self.inner.is_empty()
-    }
-
-    /// Appends an item. An `Err` changes nothing.
-    pub fn push(&mut self, item: Item) -> Result<(), Memory>
-        ensures ok { OnOk result (self.new ≡ self.old ++ item ∷ []) }
-        ensures err { OnErr result (self.new ≡ self.old) }
-    {
-        self.inner.push(item)?;
-        Ok(())
-    }
-
-    /// An equal value, on the same allocator.
-    pub fn copy(&self) -> Result<Items, Memory>
-        ensures { IfOk result (λ i. i ≡ self.now) }
-    {
-        let mut copy = Items::new(*self.inner.allocator());
-        for item in self.as_slice() {
-            copy.push(item.copy()?)?;
-        }
-        Ok(copy)
-    }
-}
-
-fn copy_text(text: &Option<Text>) -> Result<Option<Text>, Memory>
-    ensures { IfOk result (λ t. t ≡ text.now) }
+fn copy_option<T: Copied>(value: &Option<T>) -> Result<Option<T>, Memory>
+    ensures equal { IfOk result (λ t. t ≡ value.now) }
 {
-    match text {
+    match value {
         None => Ok(None),
         Some(t) => Ok(Some(t.copy()?)),
-    }
-}
-
-fn copy_pair(pair: &Option<Pair>) -> Result<Option<Pair>, Memory>
-    ensures { IfOk result (λ p. p ≡ pair.now) }
-{
-    match pair {
-        None => Ok(None),
-        Some(p) => Ok(Some(p.copy()?)),
     }
 }
 
@@ -332,7 +153,7 @@ pub enum Head {
 impl Head {
     /// An equal value.
     pub fn copy(&self) -> Result<Head, Memory>
-        ensures { IfOk result (λ h. h ≡ self.now) }
+        ensures equal { IfOk result (λ copy. copy ≡ self.now) }
     {
         match self {
             Head::Alone => Ok(Head::Alone),
@@ -342,8 +163,8 @@ impl Head {
                 Ok(Head::Create { label, pairs })
             }
             Head::Find { label, pair } => {
-                let label = copy_text(label)?;
-                let pair = copy_pair(pair)?;
+                let label = copy_option(label)?;
+                let pair = copy_option(pair)?;
                 Ok(Head::Find { label, pair })
             }
             Head::Merge { label, pair } => {
@@ -352,6 +173,12 @@ impl Head {
                 Ok(Head::Merge { label, pair })
             }
         }
+    }
+}
+
+impl Copied for Head {
+    fn copy(&self) -> Result<Head, Memory> {
+        Head::copy(self)
     }
 }
 
@@ -366,13 +193,19 @@ pub enum Change {
 impl Change {
     /// An equal value.
     pub fn copy(&self) -> Result<Change, Memory>
-        ensures { IfOk result (λ c. c ≡ self.now) }
+        ensures equal { IfOk result (λ copy. copy ≡ self.now) }
     {
         match self {
             Change::Keep => Ok(Change::Keep),
             Change::Set(pairs) => Ok(Change::Set(pairs.copy()?)),
             Change::Delete => Ok(Change::Delete),
         }
+    }
+}
+
+impl Copied for Change {
+    fn copy(&self) -> Result<Change, Memory> {
+        Change::copy(self)
     }
 }
 
@@ -390,13 +223,19 @@ pub enum Tail {
 impl Tail {
     /// An equal value.
     pub fn copy(&self) -> Result<Tail, Memory>
-        ensures { IfOk result (λ t. t ≡ self.now) }
+        ensures equal { IfOk result (λ copy. copy ≡ self.now) }
     {
         match self {
             Tail::Nothing => Ok(Tail::Nothing),
             Tail::Count => Ok(Tail::Count),
             Tail::Items(items) => Ok(Tail::Items(items.copy()?)),
         }
+    }
+}
+
+impl Copied for Tail {
+    fn copy(&self) -> Result<Tail, Memory> {
+        Tail::copy(self)
     }
 }
 
@@ -413,12 +252,12 @@ pub struct Statement {
 }
 
 impl Statement {
-    /// An equal value.
+    /// An equal value, on the same allocators.
     pub fn copy(&self) -> Result<Statement, Memory>
-        ensures { IfOk result (λ s. s ≡ self.now) }
+        ensures equal { IfOk result (λ s. s ≡ self.now) }
     {
         let head = self.head.copy()?;
-        let name = copy_text(&self.name)?;
+        let name = copy_option(&self.name)?;
         let change = self.change.copy()?;
         let tail = self.tail.copy()?;
         let columns = self.columns.copy()?;
@@ -429,5 +268,11 @@ impl Statement {
             tail,
             columns,
         })
+    }
+}
+
+impl Copied for Statement {
+    fn copy(&self) -> Result<Statement, Memory> {
+        Statement::copy(self)
     }
 }

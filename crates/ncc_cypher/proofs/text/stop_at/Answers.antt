@@ -1,8 +1,7 @@
 use Rattle.std.proofs.Common.{◌≡◌, ◌≤◌, ◌∷◌, [], ℕ, List, false, length, get_or, drop, sym, ap, ◌∙◌, arith}
 use Rattle.ncc_cypher.specs.Class.{escape, is_escape}
 use Rattle.std.proofs.lemmas.List.{length-drop}
-use Rattle.ncc_cypher.specs.Scan.{body_at}
-use Rattle.ncc_cypher.specs.Body.{with_front}
+use Rattle.ncc_cypher.specs.Body.{body_at, with_front}
 use Rattle.ncc_cypher.proofs.Runs.{is_backslash, nothing, at_quote, bad_escape, no_escape, good_escape}
 use Rattle.ncc_cypher.proofs.text.stop_at.Goals as goal
 

@@ -1,5 +1,5 @@
 use Rattle.std.proofs.Common.{[], Some, None, false, sym, ◌∙◌}
-use Rattle.ncc_cypher.specs.Scan.{body_at}
+use Rattle.ncc_cypher.specs.Body.{body_at}
 use Rattle.ncc_cypher.proofs.Runs.{stops, so_far, quoted, with_more}
 use Rattle.ncc_cypher.proofs.text.text_of.Goals as goal
 

@@ -1,8 +1,7 @@
 use Rattle.std.proofs.Common.{◌≡◌, false, length}
 use denote.Shadow.{shadow}
 use denote.Text.{Utf8}
-use Rattle.ncc_cypher.specs.Scan.{body_at}
-use Rattle.ncc_cypher.specs.Body.{with_front}
+use Rattle.ncc_cypher.specs.Body.{body_at, with_front}
 use Rattle.ncc_cypher.proofs.text.text_of.Given as goal
 
 abbrev pub invariant-loop-out : goal.invariant-loop-out
