@@ -1,10 +1,16 @@
 -- The tokens that bytes begin with, one by one.
-use Rattle.std.proofs.Common.{◌≡◌, ◌≤◌, ◌<◌, ℕ, zero, suc, List, [], ◌∷◌, length, Option, Some, None, refl, sym, ap, subst, ◌∙◌, arith}
+use Rattle.std.proofs.Common.{◌≡◌, ◌≤◌, ◌<◌, ℕ, zero, suc, ◌-◌, List, [], ◌∷◌, length, Option, Some, None, Ok, Err, refl, sym, ap, ◌∙◌, arith}
+use Rattle.ncc_pack.specs.declared.value.Value.{Value}
+use Rattle.ncc_cypher.specs.declared.tree.Statement.{Statement}
+use Rattle.ncc_cypher.specs.declared.error.SyntaxKind.{SyntaxKind}
+use Rattle.ncc_cypher.specs.declared.reader.Reader.{Reader}
+use Rattle.ncc_cypher.specs.State as s
+use Rattle.ncc_cypher.specs.Columns.{columns}
 use Rattle.ncc_cypher.specs.declared.token.Token.{Token}
 use Rattle.ncc_cypher.specs.Token.{Placed, past_blanks}
 use Rattle.ncc_cypher.specs.Scan.{token_at}
-use Rattle.ncc_cypher.specs.Parsed.{front_by, front, scanned}
-use Rattle.ncc_cypher.specs.Reading.{Ahead, tokens_in, ahead_by}
+use Rattle.ncc_cypher.specs.Parsed.{Answer, front_by, front, scanned, named_by, whole, at_place, parsed}
+use Rattle.ncc_cypher.specs.Reading.{Ahead, tokens_in, ahead_by, ahead, left, reads, column_values}
 use Rattle.ncc_cypher.proofs.Sources.{nothing}
 use Rattle.ncc_cypher.proofs.Answered.{shorter}
 
@@ -52,3 +58,18 @@ tokens_some bytes x rest e = by_front bytes (Some (x, rest)) (one_front (length 
 pub tokens_none : (bytes : List ℕ) → token_at (past_blanks bytes) ≡ None → tokens_in bytes ≡ ([], past_blanks bytes)
 unfolding ahead_of
 tokens_none bytes e = by_front bytes None (one_front (length bytes) bytes refl ∙ ap (front_by scanned bytes) e)
+
+-- ---- for `read`
+
+abbrev answer : ℕ → Ahead → Answer
+answer n a = at_place n (whole (columns a.0) a.1 s.Start a.0)
+
+parsed_ahead : (source : List ℕ) (r : Reader) → ahead r ≡ tokens_in source → parsed source ≡ answer (length source) (ahead r)
+unfolding parsed tokens_in
+parsed_ahead source r e = ap (answer (length source)) (sym e)
+
+pub read_ok : (source : List ℕ) (r : Reader) (y : Statement) → ahead r ≡ tokens_in source → reads (columns (left r)) s.Start r ≡ named_by (columns (left r)) (Some y) → y.columns ≡ column_values (columns (left r)) → parsed source ≡ Ok y
+read_ok source r y e f c = parsed_ahead source r e ∙ ap (at_place (length source)) f ∙ ap (λ (z : List Value). Ok (record y { columns = z })) (sym c)
+
+pub read_err : (source : List ℕ) (r : Reader) (n : ℕ) (kind : SyntaxKind) → ahead r ≡ tokens_in source → reads (columns (left r)) s.Start r ≡ Err (n, kind) → parsed source ≡ Err (length source - n, kind)
+read_err source r n kind e f = parsed_ahead source r e ∙ ap (at_place (length source)) f

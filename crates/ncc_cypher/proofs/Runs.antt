@@ -8,6 +8,7 @@ use Rattle.std.proofs.lemmas.List.{append-nil, length-append, length-drop, get_o
 use Rattle.std.proofs.lemmas.List.Sums.{prefix_len_stops, prefix_len-le-length}
 use Rattle.std.proofs.lemmas.Bool.{cases_lt, eqb-true}
 use Rattle.ncc_cypher.specs.Class.{escape, is_escape}
+use Rattle.ncc_cypher.specs.Piece.{rest_of}
 use Rattle.ncc_cypher.specs.Body.{body_at, add, is_plain, with_front, Ends}
 
 -- ---- where a text may be cut
@@ -133,3 +134,16 @@ so_far q text rest front after out new d same f a n e =
 
 pub quoted : (new behind : List ℕ) (e : Option (List ℕ × List ℕ)) → with_front new (Some ([], behind)) ≡ e → Some (new, behind) ≡ e
 quoted new behind e h = ap (λ (z : List ℕ). Some (z, behind)) (sym (append-nil new)) ∙ h
+
+-- ---- for `past_body`
+
+rest_front : (front : List ℕ) (d : Option (List ℕ × List ℕ)) → rest_of (with_front front d) ≡ rest_of d
+rest_front front None = refl
+rest_front front (Some r) = refl
+
+pub rest_run : (q : ℕ) (rest after : List ℕ) → after ≡ drop (prefix_len (is_plain q) rest) rest → rest_of (body_at q false after) ≡ rest_of (body_at q false rest)
+rest_run q rest after e =
+    ap (λ (z : List ℕ). rest_of (body_at q false z)) e ∙ sym (rest_front (take (prefix_len (is_plain q) rest) rest) (body_at q false (drop (prefix_len (is_plain q) rest) rest))) ∙ sym (ap rest_of (runs q rest))
+
+pub rest_more : (q : ℕ) (front after behind : List ℕ) → body_at q false after ≡ with_front front (body_at q false behind) → rest_of (body_at q false behind) ≡ rest_of (body_at q false after)
+rest_more q front after behind e = sym (rest_front front (body_at q false behind)) ∙ sym (ap rest_of e)

@@ -1,5 +1,5 @@
 -- What the functions of the parser do: each goes on from what is ahead of the reader.
-use Rattle.std.specs.Prelude.{◌≡◌, ◌<◌, ◌≤◌, ℕ, ◌+◌, Bool, true, false, List, [], ◌∷◌, length, map, Option, Some, None, Result, Ok, Err}
+use Rattle.std.specs.Prelude.{◌≡◌, ◌<◌, ◌≤◌, ℕ, ◌+◌, Bool, true, false, List, [], ◌∷◌, length, map, Option, Some, None, Result, Ok, Err, ◌&&◌, is_some}
 use Rattle.ncc_pack.specs.declared.value.Value.{Value}
 use Rattle.ncc_pack.specs.declared.value.Value.TheVariants as v
 use Rattle.ncc_cypher.specs.declared.token.Token.{Token}
@@ -18,7 +18,7 @@ use Rattle.ncc_cypher.specs.declared.error.SyntaxKind.{SyntaxKind}
 use Rattle.ncc_cypher.specs.declared.error.SyntaxKind.TheVariants.{BadToken, Unexpected}
 use Rattle.ncc_cypher.specs.declared.reader.Reader.{Reader}
 use Rattle.ncc_cypher.specs.Token.{Placed, past_blanks}
-use Rattle.ncc_cypher.specs.Grammar.{Name, has}
+use Rattle.ncc_cypher.specs.Grammar.{Name, has, is_count}
 use Rattle.ncc_cypher.specs.Columns.{between, columns}
 use Rattle.ncc_cypher.specs.Verb.{Verb}
 use Rattle.ncc_cypher.specs.Verb as a
@@ -147,6 +147,29 @@ abbrev pub NoComma : Option Token → Type 0
 NoComma (Some t.Comma) = ⊥
 NoComma _ = Unit {0}
 
+abbrev pub NoAs : Option Token → Type 0
+NoAs (Some t.As) = ⊥
+NoAs _ = Unit {0}
+
+abbrev pub NoOpen : Option Token → Type 0
+NoOpen (Some t.Open) = ⊥
+NoOpen _ = Unit {0}
+
+abbrev pub NoReturn : Option Token → Type 0
+NoReturn (Some t.Return) = ⊥
+NoReturn _ = Unit {0}
+
+abbrev pub NoRight : Option Token → Type 0
+NoRight (Some t.RightBrace) = ⊥
+NoRight _ = Unit {0}
+
+-- nothing that stands behind a head
+abbrev pub NoRest : Option Token → Type 0
+NoRest (Some t.Set) = ⊥
+NoRest (Some t.Delete) = ⊥
+NoRest (Some t.Return) = ⊥
+NoRest _ = Unit {0}
+
 -- no further token belongs to the item
 abbrev pub Whole : Item → Option Token → Type 0
 Whole i.Whole (Some t.Dot) = ⊥
@@ -191,11 +214,7 @@ abbrev pub NotCreate : Opening → Type 0
 NotCreate (o.Create x) = ⊥
 NotCreate _ = Unit {0}
 
--- the front ends here
-abbrev pub Ended : List Placed → Type 0
-Ended [] = Unit {0}
-Ended (x ∷ xs) = x.what ≡ t.Semicolon
-
+-- the statement ends here, and no other token goes on
 abbrev pub NoMore : State → Option Token → Type 0
 NoMore x None = Unit {0}
 NoMore x (Some t.Semicolon) = Unit {0}
@@ -223,3 +242,8 @@ count_or false b = s.Counting b
 abbrev pub Gives : List Name → Made → Result (Change × Tail × List Value) Fault → Answer → Type 0
 Gives names a (Ok y) r = r ≡ named_by names (Some (full a.head a.name y.0 y.1))
 Gives names a (Err e) r = Tells e r
+
+-- whether the word `count` stands next, where a name is bound
+abbrev pub starts_count : Option Name → Option Token → Bool
+starts_count n (Some (t.Name x)) = is_count x && is_some n
+starts_count n _ = false

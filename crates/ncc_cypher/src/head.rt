@@ -124,13 +124,24 @@ impl<'a> Reader<'a> {
         }
     }
 
+    /// The one pair of MATCH or MERGE.
+    fn single_pair(&mut self) -> Result<Pair, Fault>
+        ensures same { OnOk result (Same self.old self.new) }
+        ensures next { OnOk result (NoPlus self.new.token) }
+        ensures moves { (names : List Name) (n : Node) → NotCreate n.opening
+            → Moves names (s.Braced n) (λ x. s.After (p.InPair n [] x.key) x.value.terms) self.old self.new result }
+    {
+        let keys = Draft::new(self.alloc);
+        self.pair(&keys)
+    }
+
     /// The one pair of MATCH or MERGE behind the opening brace, and the closing brace and parenthesis.
     fn single(&mut self) -> Result<Pair, Fault>
         ensures same { OnOk result (Same self.old self.new) }
         ensures moves { (names : List Name) (n : Node) → NotCreate n.opening
             → Moves names (s.Braced n) (λ x. s.Closed (a_made (with_pair n.opening [] x) n.name)) self.old self.new result }
     {
-        let pair = self.pair(&Draft::new(self.alloc))?;
+        let pair = self.single_pair()?;
         match &self.token {
             Some(Token::RightBrace) => {
                 self.advance();

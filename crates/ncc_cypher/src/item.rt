@@ -6,24 +6,23 @@ ghost use Rattle.std.specs.Prelude.{◌≡◌, ◌++◌, ◌∷◌, [], ℕ, Lis
 ghost use Rattle.ncc_cypher.specs.declared.tree.Item.{Item};
 ghost use Rattle.ncc_cypher.specs.declared.tree.Statement.{Statement};
 ghost use Rattle.ncc_cypher.specs.declared.tree.Tail.TheVariants as l;
-ghost use Rattle.ncc_cypher.specs.Body.{Ends as EndsIn};
-ghost use Rattle.ncc_cypher.specs.Columns.{between};
-ghost use Rattle.ncc_cypher.specs.Grammar.{Name, IsBound, is_count};
+ghost use Rattle.ncc_cypher.specs.Columns.{between, columns};
+ghost use Rattle.ncc_cypher.specs.Grammar.{Name, is_count};
 ghost use Rattle.ncc_cypher.specs.Place.{Body, Made};
 ghost use Rattle.ncc_cypher.specs.Place as p;
 ghost use Rattle.ncc_cypher.specs.State.{State};
 ghost use Rattle.ncc_cypher.specs.State as s;
 ghost use Rattle.ncc_cypher.specs.Machine.{a_statement, a_body, accepts, ends};
-ghost use Rattle.ncc_cypher.specs.Reading.{Moves, Ends, reads, left, further_columns, column_values, Fewer, NotMore, Whole, behind_item, Ended, NoMore, Over, count_or};
+ghost use Rattle.ncc_cypher.specs.Reading.{Moves, Ends, reads, left, further_columns, column_values, Fewer, NotMore, Whole, behind_item, NoMore, NoComma, Over, count_or, starts_count};
 ghost use Rattle.ncc_cypher.specs.declared.tree.Change.TheVariants as c;
 
 use crate::error::Fault;
 use crate::reader::Reader;
-use crate::slice::before;
 use crate::sum::is_bound;
 use crate::token::{Piece, Token};
 use crate::tree::{Item, Items, Tail};
-use ncc_pack::{Sequence, Text, Value, Values};
+use ncc_pack::{Memory, Sequence, Text, Value, Values};
+use std::alloc::AllocError;
 
 /// Says whether the word is `count`, in any case.
 pub(crate) fn is_count(word: &Piece) -> bool
@@ -35,7 +34,8 @@ pub(crate) fn is_count(word: &Piece) -> bool
 impl<'a> Reader<'a> {
     /// Says that nothing is left, or refuses what is.
     fn over(&self) -> Result<(), Fault>
-        ensures { (names : List Name) (x : State) (y : Statement) → accepts x ≡ Some y → Over x self.now.token
+        ensures none { OnOk result (left self.now ≡ []) }
+        ensures ends { (names : List Name) (x : State) (y : Statement) → accepts x ≡ Some y → Over x self.now.token
             → Ends names (λ _. y) result (reads names x self.now) }
     {
         match &self.token {
@@ -54,7 +54,8 @@ impl<'a> Reader<'a> {
     pub(crate) fn end(&mut self) -> Result<(), Fault>
         ensures ends { (names : List Name) (x : State) (y : Statement) → ends x ≡ Some y → NoMore x self.old.token
             → Ends names (λ _. y) result (reads names x self.old) }
-        ensures ended { OnOk result (Ended (left self.old)) }
+        ensures columns { OnOk result (columns (left self.old) ≡ []) }
+        ensures further { (start name : List ℕ) → OnOk result (further_columns (Some start) name false (left self.old) ≡ name ∷ []) }
     {
         match &self.token {
             Some(Token::Semicolon) => {
@@ -84,10 +85,21 @@ impl<'a> Reader<'a> {
         }
     }
 
+    /// The source from `start` up to the end of the last token.
+    fn source(&self, start: &str) -> Result<Text, Memory>
+        ensures { IfOk result (λ c. c ≡ between start.now self.now.behind) }
+    {
+        let length = start.len().saturating_sub(self.behind.as_str().len());
+        match start.split_at_checked(length) {
+            Some((source, _)) => Text::from_str(self.alloc, source),
+            // The last token ends within `start`, at a character.
+            None => Err(AllocError),
+        }
+    }
+
     /// An item that is read, with the name of its column: that behind AS, or the source from `start` on.
     fn named(&mut self, item: Item, start: &str) -> Result<(Item, Text), Fault>
-        requires start { EndsIn start.now self.old.behind }
-        requires whole { Whole item self.old.token }
+        requires { Whole item self.old.token }
         ensures fewer { OnOk result (NotMore self.old self.new) }
         ensures column { IfOk result (λ r. further_columns (Some start.now) (between start.now self.old.behind) false (left self.old)
             ≡ further_columns (Some start.now) r.1 false (left self.new)) }
@@ -101,7 +113,7 @@ impl<'a> Reader<'a> {
                 Ok((item, column))
             }
             _ => {
-                let column = Text::from_str(self.alloc, before(start, self.behind.as_str()))?;
+                let column = self.source(start)?;
                 Ok((item, column))
             }
         }
@@ -109,7 +121,6 @@ impl<'a> Reader<'a> {
 
     /// An item behind the bound name.
     fn owned(&mut self, bound: &Option<Text>, start: &str) -> Result<(Item, Text), Fault>
-        requires { EndsIn start.now self.old.behind }
         ensures fewer { OnOk result (NotMore self.old self.new) }
         ensures column { IfOk result (λ r. further_columns (Some start.now) (between start.now self.old.behind) false (left self.old)
             ≡ further_columns (Some start.now) r.1 false (left self.new)) }
@@ -152,6 +163,16 @@ impl<'a> Reader<'a> {
         }
     }
 
+    /// The end behind the last item.
+    fn items_end(&mut self) -> Result<(), Fault>
+        requires { NoComma self.old.token }
+        ensures further { (start name : List ℕ) → OnOk result (further_columns (Some start) name false (left self.old) ≡ name ∷ []) }
+        ensures ends { (names : List Name) (b : Body) (xs : List Item)
+            → Ends names (λ _. a_statement b (l.Items xs)) result (reads names (s.Aliased b xs) self.old) }
+    {
+        self.end()
+    }
+
     /// The items behind the first, up to the end, with the names of all columns.
     fn further_items(&mut self, bound: &Option<Text>, first: (Item, Text)) -> Result<(Items, Values), Fault>
         ensures columns { (start : List ℕ) → IfOk result (λ r. r.1 ≡ column_values (further_columns (Some start) first.1 false (left self.old))) }
@@ -170,7 +191,7 @@ impl<'a> Reader<'a> {
             columns.push(Value::Text(last))?;
             last = column;
         }
-        self.end()?;
+        self.items_end()?;
         columns.push(Value::Text(last))?;
         Ok((items, columns))
     }
@@ -185,33 +206,39 @@ impl<'a> Reader<'a> {
         self.further_items(bound, first)
     }
 
+    /// The end behind the last column.
+    fn column_end(&mut self, column: Text) -> Result<Values, Fault>
+        ensures columns { (start : List ℕ) → IfOk result (λ r. r ≡ column_values (further_columns (Some start) column false (left self.old))) }
+        ensures ends { (names : List Name) (x : State) (y : Statement) → ends x ≡ Some y → NoMore x self.old.token
+            → Ends names (λ _. y) result (reads names x self.old) }
+    {
+        self.end()?;
+        let mut columns = Sequence::new(self.alloc);
+        columns.push(Value::Text(column))?;
+        Ok(columns)
+    }
+
     /// The name of the column of `count`, and the end.
     fn count_column(&mut self, start: &str) -> Result<Values, Fault>
-        requires { EndsIn start.now self.old.behind }
         ensures columns { IfOk result (λ r. r
             ≡ column_values (further_columns (Some start.now) (between start.now self.old.behind) false (left self.old))) }
         ensures ends { (names : List Name) (b : Body) → Ends names (λ _. a_statement b l.Count) result (reads names (s.Counted b) self.old) }
     {
-        let mut columns = Sequence::new(self.alloc);
         match &self.token {
             Some(Token::As) => {
                 self.advance();
                 let column = self.alias()?;
-                self.end()?;
-                columns.push(Value::Text(column))?;
+                self.column_end(column)
             }
             _ => {
-                self.end()?;
-                let column = Text::from_str(self.alloc, before(start, self.behind.as_str()))?;
-                columns.push(Value::Text(column))?;
+                let column = self.source(start)?;
+                self.column_end(column)
             }
         }
-        Ok(columns)
     }
 
     /// What stands behind `count` and its parenthesis.
     fn counted(&mut self, bound: &Option<Text>, start: &str) -> Result<Values, Fault>
-        requires { EndsIn start.now self.old.behind }
         ensures columns { IfOk result (λ r. r
             ≡ column_values (further_columns (Some start.now) (between start.now self.old.behind) false (left self.old))) }
         ensures ends { (names : List Name) (b : Body) → b.made.name ≡ bound.now
@@ -260,10 +287,20 @@ impl<'a> Reader<'a> {
         }
     }
 
-    /// What stands behind a RETURN that begins with the word `count`, where a name is bound; it may be that name.
+    /// The items, up to the end, where the first begins with the bound name, which was read.
+    fn owned_items(&mut self, bound: &Option<Text>, start: &str) -> Result<(Tail, Values), Fault>
+        ensures columns { IfOk result (λ r. r.1
+            ≡ column_values (further_columns (Some start.now) (between start.now self.old.behind) false (left self.old))) }
+        ensures ends { (names : List Name) (b : Body) → b.made.name ≡ bound.now
+            → Ends names (λ r. a_statement b r.0) result (reads names (s.Owned (p.InItem b []) []) self.old) }
+    {
+        let first = self.owned(bound, start)?;
+        let (items, columns) = self.further_items(bound, first)?;
+        Ok((Tail::Items(items), columns))
+    }
+
+    /// What stands behind RETURN and the word `count`, where a name is bound; it may be that name.
     fn count_or_item(&mut self, bound: &Option<Text>, own: bool, start: &str) -> Result<(Tail, Values), Fault>
-        requires start { EndsIn start.now self.old.behind }
-        requires bound { IsBound bound.now }
         ensures columns { IfOk result (λ r. r.1
             ≡ column_values (further_columns (Some start.now) (between start.now self.old.behind) false (left self.old))) }
         ensures ends { (names : List Name) (b : Body) → b.made.name ≡ bound.now
@@ -279,10 +316,46 @@ impl<'a> Reader<'a> {
                 if !own {
                     return Err(self.refused());
                 }
-                let first = self.owned(bound, start)?;
-                let (items, columns) = self.further_items(bound, first)?;
-                Ok((Tail::Items(items), columns))
+                self.owned_items(bound, start)
             }
+        }
+    }
+
+    /// The items as what a statement returns.
+    fn all_items(&mut self, bound: &Option<Text>) -> Result<(Tail, Values), Fault>
+        ensures columns { IfOk result (λ r. r.1 ≡ column_values (further_columns None [] false (left self.old))) }
+        ensures ends { (names : List Name) (b : Body) → b.made.name ≡ bound.now
+            → Ends names (λ r. a_statement b r.0) result (reads names (s.Needs (p.InItem b []) []) self.old) }
+    {
+        let (items, columns) = self.items(bound)?;
+        Ok((Tail::Items(items), columns))
+    }
+
+    /// Says whether the word `count` stands next, where a name is bound.
+    fn starts_count(&self, bound: &Option<Text>) -> bool
+        ensures { result ≡ starts_count bound.now self.now.token }
+    {
+        match &self.token {
+            Some(Token::Name(word)) => is_count(word) && bound.is_some(),
+            _ => false,
+        }
+    }
+
+    /// What stands behind RETURN, where the word `count` stands next.
+    fn counting(&mut self, bound: &Option<Text>) -> Result<(Tail, Values), Fault>
+        requires { starts_count bound.now self.old.token ≡ true }
+        ensures columns { IfOk result (λ r. r.1 ≡ column_values (further_columns None [] false (left self.old))) }
+        ensures ends { (names : List Name) (b : Body) → b.made.name ≡ bound.now
+            → Ends names (λ r. a_statement b r.0) result (reads names (s.Returning b) self.old) }
+    {
+        let start = self.from.as_str();
+        match &self.token {
+            Some(Token::Name(word)) => {
+                let own = is_bound(bound, word);
+                self.advance();
+                self.count_or_item(bound, own, start)
+            }
+            _ => Err(self.refused()),
         }
     }
 
@@ -292,15 +365,10 @@ impl<'a> Reader<'a> {
         ensures ends { (names : List Name) (b : Body) → b.made.name ≡ bound.now
             → Ends names (λ r. a_statement b r.0) result (reads names (s.Returning b) self.old) }
     {
-        let start = self.from.as_str();
-        if let Some(Token::Name(word)) = &self.token {
-            if is_count(word) && bound.is_some() {
-                let own = is_bound(bound, word);
-                self.advance();
-                return self.count_or_item(bound, own, start);
-            }
+        if self.starts_count(bound) {
+            self.counting(bound)
+        } else {
+            self.all_items(bound)
         }
-        let (items, columns) = self.items(bound)?;
-        Ok((Tail::Items(items), columns))
     }
 }

@@ -33,13 +33,16 @@ impl<'a> Reader<'a> {
     {
         let from = past_blanks(text);
         match token_at(from) {
-            Some((token, after)) => Reader {
-                alloc,
-                behind: Piece::new(text),
-                from: Piece::new(from),
-                token: Some(token),
-                after: Piece::new(after),
-            },
+            Some((token, rest)) => {
+                let after = Piece::new(rest);
+                Reader {
+                    alloc,
+                    behind: Piece::new(text),
+                    from: Piece::new(from),
+                    token: Some(token),
+                    after,
+                }
+            }
             None => Reader {
                 alloc,
                 behind: Piece::new(text),

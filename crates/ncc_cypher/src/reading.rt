@@ -2,11 +2,12 @@
 #![tactic(auto, unfolding(crate::specs::Machine::go, crate::specs::Machine::ends, crate::specs::Parsed::whole,
     crate::specs::Columns::columns, crate::specs::Reading::further_columns))]
 
-ghost use Rattle.std.specs.Prelude.{◌≡◌, [], ℕ, List, Ok, Err, IfOk, OnOk};
+ghost use Rattle.std.specs.Prelude.{◌≡◌, ◌++◌, ◌∷◌, [], ℕ, List, Ok, Err, IfOk, OnOk};
 ghost use Rattle.ncc_cypher.specs.declared.tree.Head.{Head};
 ghost use Rattle.ncc_cypher.specs.declared.tree.Pair.{Pair};
 ghost use Rattle.ncc_cypher.specs.declared.tree.Statement.{Statement};
 ghost use Rattle.ncc_cypher.specs.declared.tree.Change.TheVariants as c;
+ghost use Rattle.ncc_cypher.specs.declared.tree.Tail.TheVariants as l;
 ghost use Rattle.ncc_cypher.specs.declared.error.ParseError.TheVariants.{Syntax};
 ghost use Rattle.ncc_cypher.specs.declared.error.SyntaxKind.{SyntaxKind};
 ghost use Rattle.ncc_cypher.specs.Grammar.{Name};
@@ -14,7 +15,7 @@ ghost use Rattle.ncc_cypher.specs.Place.{Made};
 ghost use Rattle.ncc_cypher.specs.Place as p;
 ghost use Rattle.ncc_cypher.specs.State as s;
 ghost use Rattle.ncc_cypher.specs.Machine.{a_made, is_find};
-ghost use Rattle.ncc_cypher.specs.Reading.{Moves, Ends, Gives, reads, left, column_values, Fewer, Same, NoPlus, NoComma};
+ghost use Rattle.ncc_cypher.specs.Reading.{Moves, Ends, Gives, reads, left, column_values, Fewer, Same, NoPlus, NoComma, NoReturn, NoRest, full};
 ghost use Rattle.ncc_cypher.specs.Spelled.{Spelled, Stopped, IsOrMemory};
 ghost use Rattle.ncc_cypher.specs.Columns.{columns, Within};
 ghost use Rattle.ncc_cypher.specs.Parsed.{parsed, IsAnswer};
@@ -109,6 +110,41 @@ impl<'a> Reader<'a> {
         Ok((pairs, last))
     }
 
+    /// The end behind SET and its changes.
+    fn set_end(&mut self) -> Result<(), Fault>
+        requires plus { NoPlus self.old.token }
+        requires comma { NoComma self.old.token }
+        requires last { NoReturn self.old.token }
+        ensures columns { OnOk result (columns (left self.old) ≡ []) }
+        ensures ends { (names : List Name) (a : Made) (ps : List Pair) (x : Pair)
+            → Ends names (λ _. full a.head a.name (c.Set (ps ++ x ∷ [])) l.Nothing) result (reads names (s.After (p.InSet a ps x.key) x.value.terms) self.old) }
+    {
+        self.end()
+    }
+
+    /// The end behind DELETE and its name.
+    fn deleted_end(&mut self) -> Result<(), Fault>
+        requires { NoReturn self.old.token }
+        ensures columns { OnOk result (columns (left self.old) ≡ []) }
+        ensures ends { (names : List Name) (a : Made)
+            → Ends names (λ _. full a.head a.name c.Delete l.Nothing) result (reads names (s.Deleted a) self.old) }
+    {
+        self.end()
+    }
+
+    /// The end behind a head, which MATCH does not have.
+    fn head_end(&mut self, find: bool) -> Result<(), Fault>
+        requires { NoRest self.old.token }
+        ensures columns { OnOk result (columns (left self.old) ≡ []) }
+        ensures ends { (names : List Name) (a : Made) → is_find a.head ≡ find
+            → Ends names (λ _. full a.head a.name c.Keep l.Nothing) result (reads names (s.Closed a) self.old) }
+    {
+        if find {
+            return Err(self.refused());
+        }
+        self.end()
+    }
+
     /// What stands behind SET.
     fn set(&mut self, bound: &Option<Text>) -> Result<Rest, Fault>
         ensures ends { (names : List Name) (a : Made) → a.name ≡ bound.now → Gives names a result (reads names (s.Setting a []) self.old) }
@@ -124,7 +160,7 @@ impl<'a> Reader<'a> {
                 Ok((Change::Set(pairs), tail, columns))
             }
             _ => {
-                self.end()?;
+                self.set_end()?;
                 pairs.push(last)?;
                 Ok((Change::Set(pairs), Tail::Nothing, Sequence::new(self.alloc)))
             }
@@ -160,7 +196,7 @@ impl<'a> Reader<'a> {
                 Ok((Change::Delete, Tail::Count, columns))
             }
             _ => {
-                self.end()?;
+                self.deleted_end()?;
                 Ok((Change::Delete, Tail::Nothing, Sequence::new(self.alloc)))
             }
         }
@@ -193,10 +229,7 @@ impl<'a> Reader<'a> {
                 Ok((Change::Keep, tail, columns))
             }
             _ => {
-                if find {
-                    return Err(self.refused());
-                }
-                self.end()?;
+                self.head_end(find)?;
                 Ok((Change::Keep, Tail::Nothing, Sequence::new(self.alloc)))
             }
         }
@@ -255,6 +288,21 @@ impl<'a> Reader<'a> {
     }
 }
 
+/// The answer of `parse`.
+fn read(alloc: Global, source: &str) -> Result<Statement, ParseError>
+    ensures { IsAnswer result (parsed source.now) }
+{
+    let mut reader = Reader::at(alloc, source);
+    match reader.statement() {
+        Ok(statement) => Ok(statement),
+        Err(Fault::Syntax { left, kind }) => {
+            let at = source.len().saturating_sub(left) as u64;
+            Err(ParseError::Syntax { at, kind })
+        }
+        Err(Fault::Memory) => Err(ParseError::Memory),
+    }
+}
+
 /// The statement that a source spells: the grammar of `docs/CYPHER.md` over its longest tokens, with the names of its
 /// columns. `Syntax` comes exactly where no statement is spelled. Its `at` is the byte of the first token that no
 /// spelling continues, or the source's length where the end does not continue one. Its kind is `BadToken` exactly where
@@ -271,13 +319,5 @@ pub fn parse(alloc: Global, source: &str) -> Result<Statement, ParseError>
     // A refusal is at the first place where the source goes wrong, and says how.
     ensures refused { (at : ℕ) (kind : SyntaxKind) → result ≡ Err (Syntax at kind) → Stopped source.now at kind }
 {
-    let mut reader = Reader::at(alloc, source);
-    match reader.statement() {
-        Ok(statement) => Ok(statement),
-        Err(Fault::Syntax { left, kind }) => {
-            let at = source.len().saturating_sub(left) as u64;
-            Err(ParseError::Syntax { at, kind })
-        }
-        Err(Fault::Memory) => Err(ParseError::Memory),
-    }
+    read(alloc, source)
 }

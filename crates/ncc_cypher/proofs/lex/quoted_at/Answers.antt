@@ -22,7 +22,7 @@ new-requires-clause-body c =
 pub returns-in-Some-clause-token : goal.returns-in-Some-clause-token
 returns-in-Some-clause-token c =
     let b : rest_of (body_at c.args.quote false (drop 1 c.args.text.now)) ≡ Some c.in-Some.rest.now = ap (λ (z : List ℕ). rest_of (body_at c.args.quote false z)) (sym c.past-body.ensures) ∙ sym c.past_body.ensures.value ∙ ap rest_read c.in-Some.is in
-    quote_text c.args.text.now c.args.quote c.past-body.result.now c.in-Some.rest.now c.new.result c.requires.some c.requires.first c.requires.quote c.past-body.ensures c.new.ensures b
+    quote_text c.args.text.now c.args.quote c.past-body.result.now c.in-Some.rest.now c.new.result c.requires.some c.requires.first c.requires.quote c.past-body.ensures c.new.ensures.same b
 
 pub returns-in-None-clause-token : goal.returns-in-None-clause-token
 returns-in-None-clause-token c =

@@ -1,0 +1,27 @@
+use Rattle.std.proofs.Common.{rules, ◌≡◌, ◌++◌, ◌∷◌, [], ℕ, List, Bool, Option, Some, None, true, false, refl, sym, ap, ◌∙◌}
+use Rattle.ncc_pack.specs.declared.value.Value.TheVariants as w
+use Rattle.ncc_cypher.specs.declared.token.Token.{Token}
+use Rattle.ncc_cypher.specs.declared.token.Token.TheVariants as t
+use Rattle.ncc_cypher.specs.declared.tree.Term.{Term}
+use Rattle.ncc_cypher.specs.declared.tree.Expr.{Expr}
+use Rattle.ncc_cypher.specs.declared.tree.Pair.{Pair}
+use Rattle.ncc_cypher.specs.declared.tree.Item.{Item}
+use Rattle.ncc_cypher.specs.declared.tree.Head.TheVariants as h
+use Rattle.ncc_cypher.specs.declared.tree.Tail.TheVariants as l
+use Rattle.ncc_cypher.specs.Verb as v
+use Rattle.ncc_cypher.specs.Opening as o
+use Rattle.ncc_cypher.specs.Place as p
+use Rattle.ncc_cypher.specs.State as s
+use Rattle.ncc_cypher.specs.Grammar.{Name, has}
+use Rattle.ncc_pack.specs.declared.value.Value.{Value}
+use Rattle.ncc_cypher.specs.Machine.{go, ends, is_bound, a_node, a_made, a_statement}
+use Rattle.ncc_cypher.specs.Reading.{NoRight, NoAs, NoComma, NoPlus, NoReturn, NoRest, NoOpen, starts_count, count_or, further_columns, column_values, left, called, reads, behind_item}
+use Rattle.ncc_cypher.proofs.Moves as m
+use Rattle.ncc_cypher.proofs.reader.Reader.returned.Goals as goal
+
+pub returns-else-starts_count-clause-ends : goal.returns-else-starts_count-clause-ends
+returns-else-starts_count-clause-ends c = λ names b e.
+    let q = c.args.self.now in
+    let k : c.starts_count.result ≡ false = search rules in
+    m.then_ends names _ c.all_items.result (reads names (s.Returning b) q) (reads names (s.Needs (p.InItem b []) []) q)
+    (m.items_next names b q.token q.from q.after (ap (λ (z : Option Name). starts_count z q.token) e ∙ sym c.starts_count.ensures ∙ k)) (c.all_items.ensures.ends names b e)

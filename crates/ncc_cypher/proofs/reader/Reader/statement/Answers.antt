@@ -1,0 +1,21 @@
+use Rattle.std.proofs.Common.{rules, ◌≡◌, ◌++◌, ◌∷◌, [], ℕ, List, Bool, Option, Some, None, true, false, refl, sym, ap, ◌∙◌}
+use Rattle.ncc_cypher.specs.declared.token.Token.{Token}
+use Rattle.ncc_cypher.specs.declared.token.Token.TheVariants as t
+use Rattle.ncc_cypher.specs.declared.tree.Term.{Term}
+use Rattle.ncc_cypher.specs.declared.tree.Expr.{Expr}
+use Rattle.ncc_cypher.specs.declared.tree.Pair.{Pair}
+use Rattle.ncc_cypher.specs.declared.tree.Item.{Item}
+use Rattle.ncc_cypher.specs.declared.tree.Head.TheVariants as h
+use Rattle.ncc_cypher.specs.declared.tree.Tail.TheVariants as l
+use Rattle.ncc_cypher.specs.Verb as v
+use Rattle.ncc_cypher.specs.Opening as o
+use Rattle.ncc_cypher.specs.Place as p
+use Rattle.ncc_cypher.specs.State as s
+use Rattle.ncc_cypher.specs.Grammar.{Name, has}
+use Rattle.ncc_cypher.specs.Machine.{go, ends, is_bound, a_node, a_made, a_statement}
+use Rattle.ncc_cypher.specs.Reading.{NoRight, NoAs, NoComma, NoPlus, NoReturn, NoRest, NoOpen, count_or, further_columns, column_values, left, called, reads, behind_item}
+use Rattle.ncc_cypher.proofs.Moves as m
+use Rattle.ncc_cypher.proofs.reader.Reader.statement.Goals as goal
+
+pub returns-in_ok-items-in-Some-Return-clause-columns : goal.returns-in_ok-items-in-Some-Return-clause-columns
+returns-in_ok-items-in-Some-Return-clause-columns c = c.in_ok-items-in-Some-Return.ensures.columns ∙ m.returned_columns c.args.self.now c.advance.new.self (search rules) c.advance.ensures.ahead

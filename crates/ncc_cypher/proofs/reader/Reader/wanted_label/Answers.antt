@@ -1,0 +1,30 @@
+use Rattle.std.proofs.Common.{rules, ◌≡◌, ◌++◌, ◌∷◌, [], ℕ, List, Bool, Option, Some, None, true, false, refl, sym, ap, ◌∙◌}
+use Rattle.ncc_cypher.specs.declared.token.Token.{Token}
+use Rattle.ncc_cypher.specs.declared.token.Token.TheVariants as t
+use Rattle.ncc_cypher.specs.declared.tree.Term.{Term}
+use Rattle.ncc_cypher.specs.declared.tree.Expr.{Expr}
+use Rattle.ncc_cypher.specs.declared.tree.Pair.{Pair}
+use Rattle.ncc_cypher.specs.declared.tree.Item.{Item}
+use Rattle.ncc_cypher.specs.declared.tree.Head.TheVariants as h
+use Rattle.ncc_cypher.specs.declared.tree.Tail.TheVariants as l
+use Rattle.ncc_cypher.specs.Verb as v
+use Rattle.ncc_cypher.specs.Opening as o
+use Rattle.ncc_cypher.specs.Place as p
+use Rattle.ncc_cypher.specs.State as s
+use Rattle.ncc_cypher.specs.Grammar.{Name, has}
+use Rattle.ncc_cypher.specs.Machine.{go, ends, is_bound, a_node, a_made, a_statement}
+use Rattle.ncc_cypher.specs.Reading.{NoRight, NoAs, NoComma, NoPlus, NoReturn, NoRest, NoOpen, count_or, further_columns, column_values, left, called, reads, behind_item}
+use Rattle.ncc_cypher.proofs.Moves as m
+use Rattle.ncc_cypher.proofs.reader.Reader.wanted_label.Goals as goal
+
+pub returns-in-Some-Colon-clause-created : goal.returns-in-Some-Colon-clause-created
+returns-in-Some-Colon-clause-created c = λ names.
+    let n = c.args.name.now in
+    m.then_moves names (called v.Create n) (s.Coloned v.Create n) (λ (x : Name). s.Labelled (a_node (o.Create x) n)) c.args.self.now c.advance.new.self c.label.new.self c.label.result
+    (m.moved names (called v.Create n) (s.Coloned v.Create n) t.Colon c.args.self.now c.advance.new.self (search rules) c.advance.ensures.ahead (m.colon_step v.Create n)) (c.label.ensures.moves names v.Create n)
+
+pub returns-in-Some-Colon-clause-merged : goal.returns-in-Some-Colon-clause-merged
+returns-in-Some-Colon-clause-merged c = λ names.
+    let n = c.args.name.now in
+    m.then_moves names (called v.Merge n) (s.Coloned v.Merge n) (λ (x : Name). s.Labelled (a_node (o.Merge x) n)) c.args.self.now c.advance.new.self c.label.new.self c.label.result
+    (m.moved names (called v.Merge n) (s.Coloned v.Merge n) t.Colon c.args.self.now c.advance.new.self (search rules) c.advance.ensures.ahead (m.colon_step v.Merge n)) (c.label.ensures.moves names v.Merge n)
