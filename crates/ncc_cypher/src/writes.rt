@@ -8,7 +8,7 @@ use crate::tree::{Change, Head, Statement};
 impl Statement {
     /// Says whether the statement writes: exactly CREATE, MERGE, SET and DELETE do. It takes no memory.
     pub fn writes(&self) -> bool
-        ensures { result ≡ writes self.now }
+        ensures exact { result ≡ writes self.now }
     {
         let makes = match &self.head {
             Head::Alone => false,

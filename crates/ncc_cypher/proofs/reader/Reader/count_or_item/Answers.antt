@@ -7,6 +7,7 @@ use Rattle.ncc_cypher.specs.declared.tree.Expr.{Expr}
 use Rattle.ncc_cypher.specs.declared.tree.Pair.{Pair}
 use Rattle.ncc_cypher.specs.declared.tree.Item.{Item}
 use Rattle.ncc_cypher.specs.declared.tree.Head.TheVariants as h
+use Rattle.ncc_cypher.specs.declared.tree.Tail.{Tail}
 use Rattle.ncc_cypher.specs.declared.tree.Tail.TheVariants as l
 use Rattle.ncc_cypher.specs.Verb as v
 use Rattle.ncc_cypher.specs.Opening as o
@@ -24,5 +25,5 @@ returns-else-not-own-clause-ends c = λ names b e.
     let q = c.args.self.now in
     let o : c.args.own ≡ true = search rules in
     let k : NoOpen q.token = search rules in
-    m.then_ends names _ c.owned_items.result (reads names (count_or c.args.own b) q) (reads names (s.Owned (p.InItem b []) []) q)
+    m.then_ends names (λ (r : Tail × List Value). a_statement b r.0) c.owned_items.result (reads names (count_or c.args.own b) q) (reads names (s.Owned (p.InItem b []) []) q)
     (ap (λ (z : Bool). reads names (count_or z b) q) o ∙ m.either_next names b q.token q.from q.after k) (c.owned_items.ensures.ends names b e)

@@ -7,6 +7,7 @@ use Rattle.ncc_cypher.specs.declared.tree.Expr.{Expr}
 use Rattle.ncc_cypher.specs.declared.tree.Pair.{Pair}
 use Rattle.ncc_cypher.specs.declared.tree.Item.{Item}
 use Rattle.ncc_cypher.specs.declared.tree.Head.TheVariants as h
+use Rattle.ncc_cypher.specs.declared.tree.Tail.{Tail}
 use Rattle.ncc_cypher.specs.declared.tree.Tail.TheVariants as l
 use Rattle.ncc_cypher.specs.Verb as v
 use Rattle.ncc_cypher.specs.Opening as o
@@ -23,5 +24,5 @@ pub returns-else-starts_count-clause-ends : goal.returns-else-starts_count-claus
 returns-else-starts_count-clause-ends c = λ names b e.
     let q = c.args.self.now in
     let k : c.starts_count.result ≡ false = search rules in
-    m.then_ends names _ c.all_items.result (reads names (s.Returning b) q) (reads names (s.Needs (p.InItem b []) []) q)
+    m.then_ends names (λ (r : Tail × List Value). a_statement b r.0) c.all_items.result (reads names (s.Returning b) q) (reads names (s.Needs (p.InItem b []) []) q)
     (m.items_next names b q.token q.from q.after (ap (λ (z : Option Name). starts_count z q.token) e ∙ sym c.starts_count.ensures ∙ k)) (c.all_items.ensures.ends names b e)
