@@ -1,6 +1,5 @@
 //! Heads: CREATE, MATCH and MERGE with their node.
-#![tactic(auto, unfolding(crate::specs::Machine::go, crate::specs::Machine::ends, crate::specs::Parsed::whole,
-    crate::specs::Columns::columns, crate::specs::Reading::further_columns))]
+#![tactic(auto, unfolding(crate::specs::Machine::go, crate::specs::Machine::ends, crate::specs::Parsed::whole, crate::specs::Columns::columns, crate::specs::Reading::further_columns))]
 
 ghost use Rattle.std.specs.Prelude.{◌≡◌, ◌++◌, ◌∷◌, [], ℕ, List, Option, OnOk, IfOk, Some, None};
 ghost use Rattle.ncc_cypher.specs.declared.tree.Pair.{Pair};
@@ -230,7 +229,11 @@ impl<'a> Reader<'a> {
     }
 
     /// The pair of MATCH, where one stands, and the closing parenthesis.
-    fn found_pair(&mut self, name: &Option<Text>, label: &Option<Text>) -> Result<Option<Pair>, Fault>
+    fn found_pair(
+        &mut self,
+        name: &Option<Text>,
+        label: &Option<Text>,
+    ) -> Result<Option<Pair>, Fault>
         requires { NoLabelThen name.now label.now self.old.token }
         ensures same { OnOk result (Same self.old self.new) }
         ensures moves { (names : List Name)

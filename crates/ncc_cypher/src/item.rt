@@ -1,6 +1,5 @@
 //! What is returned: items and `count`, with the names of their columns.
-#![tactic(auto, unfolding(crate::specs::Machine::go, crate::specs::Machine::ends, crate::specs::Parsed::whole,
-    crate::specs::Columns::columns, crate::specs::Reading::further_columns))]
+#![tactic(auto, unfolding(crate::specs::Machine::go, crate::specs::Machine::ends, crate::specs::Parsed::whole, crate::specs::Columns::columns, crate::specs::Reading::further_columns))]
 
 ghost use Rattle.std.specs.Prelude.{◌≡◌, ◌++◌, ◌∷◌, [], ℕ, List, IfOk, OnOk, Some, None, false, true};
 ghost use Rattle.ncc_cypher.specs.declared.tree.Item.{Item};
@@ -174,7 +173,11 @@ impl<'a> Reader<'a> {
     }
 
     /// The items behind the first, up to the end, with the names of all columns.
-    fn further_items(&mut self, bound: &Option<Text>, first: (Item, Text)) -> Result<(Items, Values), Fault>
+    fn further_items(
+        &mut self,
+        bound: &Option<Text>,
+        first: (Item, Text),
+    ) -> Result<(Items, Values), Fault>
         ensures columns { (start : List ℕ) → IfOk result (λ r. r.1 ≡ column_values (further_columns (Some start) first.1 false (left self.old))) }
         ensures ends { (names : List Name) (b : Body) → b.made.name ≡ bound.now
             → Ends names (λ r. a_statement b (l.Items r.0)) result (reads names (s.Aliased b (first.0 ∷ [])) self.old) }
@@ -300,7 +303,12 @@ impl<'a> Reader<'a> {
     }
 
     /// What stands behind RETURN and the word `count`, where a name is bound; it may be that name.
-    fn count_or_item(&mut self, bound: &Option<Text>, own: bool, start: &str) -> Result<(Tail, Values), Fault>
+    fn count_or_item(
+        &mut self,
+        bound: &Option<Text>,
+        own: bool,
+        start: &str,
+    ) -> Result<(Tail, Values), Fault>
         ensures columns { IfOk result (λ r. r.1
             ≡ column_values (further_columns (Some start.now) (between start.now self.old.behind) false (left self.old))) }
         ensures ends { (names : List Name) (b : Body) → b.made.name ≡ bound.now

@@ -1,6 +1,5 @@
 //! Terms and sums.
-#![tactic(auto, unfolding(crate::specs::Machine::go, crate::specs::Machine::ends, crate::specs::Parsed::whole,
-    crate::specs::Columns::columns, crate::specs::Reading::further_columns))]
+#![tactic(auto, unfolding(crate::specs::Machine::go, crate::specs::Machine::ends, crate::specs::Parsed::whole, crate::specs::Columns::columns, crate::specs::Reading::further_columns))]
 
 ghost use Rattle.std.specs.Prelude.{◌≡◌, ◌++◌, ◌∷◌, [], ℕ, List, Option, OnOk};
 ghost use Rattle.ncc_cypher.specs.declared.tree.Term.{Term};
