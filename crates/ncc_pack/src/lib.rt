@@ -3,6 +3,7 @@
 
 mod alone;
 mod bytes;
+mod cursor;
 mod element;
 mod encoding;
 mod error;
