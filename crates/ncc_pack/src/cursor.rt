@@ -7,8 +7,8 @@ ghost use Rattle.ncc_pack.specs.Reading.{Gives, number_at};
 use crate::error::PackError;
 use std::alloc::Global;
 
-/// Where reading stands: the bytes that are left, how many there are in all, and the allocator of what is read. What is read is
-/// taken from the front; after an error the cursor is not used again.
+/// Where reading stands: the bytes that are left, how many there are in all, and the allocator of what is read. What is
+/// read is taken from the front; after an error the cursor is not used again.
 #[derive(Drop)]
 pub(crate) struct Cursor<'a> {
     pub(crate) alloc: Global,
@@ -60,9 +60,7 @@ impl<'a> Cursor<'a> {
         }
         let (front, rest) = self.rest.split_at(4);
         self.rest = rest;
-        Ok(u32::from_be_bytes([
-            front[0], front[1], front[2], front[3],
-        ]))
+        Ok(u32::from_be_bytes([front[0], front[1], front[2], front[3]]))
     }
 
     pub(crate) fn take_u64(&mut self) -> Result<u64, PackError>

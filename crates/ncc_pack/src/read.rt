@@ -63,7 +63,8 @@ fn items_of(cursor: &mut Cursor, levels: u8, count: usize) -> Result<Values, Pac
 
 #[cycle(reading)]
 fn pairs_of(cursor: &mut Cursor, levels: u8, count: usize) -> Result<Dict, PackError>
-    ensures read { Gives (λ x. (x, cursor.new.rest.now)) result (pairs_at cursor.old.total (value_at cursor.old.total levels) [] count cursor.old.rest.now) }
+    ensures read { Gives (λ x. (x, cursor.new.rest.now)) result
+        (pairs_at cursor.old.total (value_at cursor.old.total levels) [] count cursor.old.rest.now) }
     ensures total { cursor.new.total ≡ cursor.old.total }
 {
     if count <= FEW {
@@ -75,7 +76,8 @@ fn pairs_of(cursor: &mut Cursor, levels: u8, count: usize) -> Result<Dict, PackE
 // A key that came before is found by a search through the earlier ones.
 #[cycle(reading)]
 fn few_pairs_of(cursor: &mut Cursor, levels: u8, count: usize) -> Result<Dict, PackError>
-    ensures read { Gives (λ x. (x, cursor.new.rest.now)) result (pairs_at cursor.old.total (value_at cursor.old.total levels) [] count cursor.old.rest.now) }
+    ensures read { Gives (λ x. (x, cursor.new.rest.now)) result
+        (pairs_at cursor.old.total (value_at cursor.old.total levels) [] count cursor.old.rest.now) }
     ensures total { cursor.new.total ≡ cursor.old.total }
 {
     let mut pairs = Roomy::ahead(cursor.alloc, count)?;
@@ -94,7 +96,8 @@ fn few_pairs_of(cursor: &mut Cursor, levels: u8, count: usize) -> Result<Dict, P
 // A key that came before is found in a set of the earlier ones.
 #[cycle(reading)]
 fn many_pairs_of(cursor: &mut Cursor, levels: u8, count: usize) -> Result<Dict, PackError>
-    ensures read { Gives (λ x. (x, cursor.new.rest.now)) result (pairs_at cursor.old.total (value_at cursor.old.total levels) [] count cursor.old.rest.now) }
+    ensures read { Gives (λ x. (x, cursor.new.rest.now)) result
+        (pairs_at cursor.old.total (value_at cursor.old.total levels) [] count cursor.old.rest.now) }
     ensures total { cursor.new.total ≡ cursor.old.total }
 {
     let mut seen: BTreeSet<&str> = BTreeSet::new(cursor.alloc);
@@ -139,7 +142,8 @@ fn dict_of(cursor: &mut Cursor, levels: u8, at: u64, size: Size) -> Result<Dict,
 #[cycle(reading)]
 #[tactic(auto, unfolding(crate::specs::Reading::props_at))]
 fn props_of(cursor: &mut Cursor, levels: u8) -> Result<Dict, PackError>
-    ensures read { Gives (λ x. (x, cursor.new.rest.now)) result (props_at cursor.old.total (within cursor.old.total levels) cursor.old.rest.now) }
+    ensures read { Gives (λ x. (x, cursor.new.rest.now)) result
+        (props_at cursor.old.total (within cursor.old.total levels) cursor.old.rest.now) }
     ensures total { cursor.new.total ≡ cursor.old.total }
 {
     let at = cursor.place();
@@ -153,7 +157,8 @@ fn props_of(cursor: &mut Cursor, levels: u8) -> Result<Dict, PackError>
 #[cycle(reading)]
 #[tactic(auto, unfolding(crate::specs::Reading::fields_at))]
 fn fields_of(cursor: &mut Cursor, levels: u8) -> Result<NodeValue, PackError>
-    ensures read { Gives (λ x. (x, cursor.new.rest.now)) result (fields_at cursor.old.total (within cursor.old.total levels) cursor.old.rest.now) }
+    ensures read { Gives (λ x. (x, cursor.new.rest.now)) result
+        (fields_at cursor.old.total (within cursor.old.total levels) cursor.old.rest.now) }
     ensures total { cursor.new.total ≡ cursor.old.total }
 {
     cursor.take_tag()?;

@@ -10,15 +10,15 @@ abbrev pub invariant-items_of-loop : goal.invariant-items_of-loop
 invariant-items_of-loop l = record {
   total : l.cursor.total ≡ l.fn.cursor.total;
   read : with_front l.items.items (items_at (value_at l.fn.cursor.total l.levels) (l.count - l.counter) l.cursor.rest.now)
-    ≡ items_at (value_at l.fn.cursor.total l.levels) l.count l.fn.cursor.rest.now;
+      ≡ items_at (value_at l.fn.cursor.total l.levels) l.count l.fn.cursor.rest.now;
 }
 
 abbrev pub invariant-few_pairs_of-loop : goal.invariant-few_pairs_of-loop
 invariant-few_pairs_of-loop l = record {
   total : l.cursor.total ≡ l.fn.cursor.total;
   read : with_front l.pairs.items (pairs_at l.fn.cursor.total (value_at l.fn.cursor.total l.levels) (keys l.pairs.items)
-    (l.count - l.counter) l.cursor.rest.now)
-    ≡ pairs_at l.fn.cursor.total (value_at l.fn.cursor.total l.levels) [] l.count l.fn.cursor.rest.now;
+      (l.count - l.counter) l.cursor.rest.now)
+      ≡ pairs_at l.fn.cursor.total (value_at l.fn.cursor.total l.levels) [] l.count l.fn.cursor.rest.now;
 }
 
 -- the set holds the keys so far
@@ -26,8 +26,8 @@ abbrev pub invariant-many_pairs_of-loop : goal.invariant-many_pairs_of-loop
 invariant-many_pairs_of-loop l = record {
   total : l.cursor.total ≡ l.fn.cursor.total;
   read : with_front l.pairs.items (pairs_at l.fn.cursor.total (value_at l.fn.cursor.total l.levels) (keys l.pairs.items)
-    (l.count - l.counter) l.cursor.rest.now)
-    ≡ pairs_at l.fn.cursor.total (value_at l.fn.cursor.total l.levels) [] l.count l.fn.cursor.rest.now;
+      (l.count - l.counter) l.cursor.rest.now)
+      ≡ pairs_at l.fn.cursor.total (value_at l.fn.cursor.total l.levels) [] l.count l.fn.cursor.rest.now;
   seen : (q : List ℕ) → has l.seen q ≡ list_any (bytes_eq q) (keys l.pairs.items);
 }
 

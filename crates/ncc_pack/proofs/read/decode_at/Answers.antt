@@ -7,7 +7,8 @@ use Rattle.ncc_pack.proofs.read.decode_at.Goals as goal
 pub returns-in_err-value-clause-only : goal.returns-in_err-value-clause-only
 returns-in_err-value-clause-only c = λ x b rest sp e.
     let p = err_from_is_err_and c.from_residual.result c.from_residual.ensures.1 in
-    rw (p.1, p.2) (only_err (length c.args.bytes.now) 32 c.split_at.result.1.now c.in_err-value.field-0.0 c.in_err-value.ensures.read x b rest
+    rw (p.1, p.2) (only_err (length c.args.bytes.now) 32 c.split_at.result.1.now c.in_err-value.field-0.0 c.in_err-value.ensures.read x
+    b rest
     sp (c.split_at.ensures.back ∙ e))
 
 pub returns-in_err-value-clause-exact : goal.returns-in_err-value-clause-exact
@@ -32,7 +33,8 @@ returns-clause-found c =
 
 pub returns-clause-only : goal.returns-clause-only
 returns-clause-only c = λ x b rest sp e.
-    let o = only_ok (length c.args.bytes.now) 32 c.split_at.result.1.now c.in_ok-value.value c.value_of.new.cursor.rest.now c.in_ok-value.ensures.read
+    let o = only_ok (length c.args.bytes.now) 32 c.split_at.result.1.now c.in_ok-value.value c.value_of.new.cursor.rest.now
+    c.in_ok-value.ensures.read
     x b rest sp (c.split_at.ensures.back ∙ e) in
     rw (o.0, o.1) refl
 
