@@ -75,7 +75,7 @@ only_it l k x g n none =
       split p [] m e = ap (λ (t : Bool). cond t (m ∷ []) []) e
       split p (y ∷ ys) m e = go (p y) (split p ys m e) where
         go : (t : Bool) → filter p (ys ++ m ∷ []) ≡ filter p ys ++ m ∷ [] → cond t (y ∷ filter p (ys ++ m ∷ []))
-        (filter p (ys ++ m ∷ [])) ≡ cond t (y ∷ filter p ys) (filter p ys) ++ m ∷ []
+            (filter p (ys ++ m ∷ [])) ≡ cond t (y ∷ filter p ys) (filter p ys) ++ m ∷ []
         go true again = ap (λ (zs : List StoredNode). y ∷ zs) again
         go false again = again
 

@@ -123,7 +123,7 @@ module _ (g : Graph) (legal : IsGraph g) where
     low : (is : List ℤ) → All (λ id. IsSome (find id g.nodes)) is → All (λ id. id <ℤ g.next) is
     low [] all = All-nil _
     low (i ∷ is) all = All-cons (λ id. id <ℤ g.next) i is (inside g d legal o i (All-head (λ id. IsSome (find id g.nodes)) i is all)).1
-    (low is (All-tail (λ id. IsSome (find id g.nodes)) i is all))
+        (low is (All-tail (λ id. IsSome (find id g.nodes)) i is all))
 
   module _ (a b : Delta) (oa : IsOver g a) (ob : IsOver g b) (la : IsLeast g a) (lb : IsLeast g b) (same : applied a g ≡ applied b g) where
     seen_same : (id : ℤ) → over (at a id) (find id g.nodes) ≡ over (at b id) (find id g.nodes)
@@ -131,14 +131,14 @@ module _ (g : Graph) (legal : IsGraph g) where
 
     puts_same : a.put ≡ b.put
     puts_same = same_found a.put b.put oa.put ob.put (λ id. put_at a oa id ∙ ap (λ (o : Option StoredNode). cond (int_lt id (pos 0))
-    None o) (flats a b oa ob la lb id (at a id) (at b id) refl refl (seen_same id)) ∙ sym (put_at b ob id))
+        None o) (flats a b oa ob la lb id (at a id) (at b id) refl refl (seen_same id)) ∙ sym (put_at b ob id))
 
     gone_same : a.gone ≡ b.gone
     gone_same = same_ids a.gone b.gone oa.gone ob.gone (λ id. go id (int_lt id g.next) refl) where
       go : (id : ℤ) (t : Bool) → int_lt id g.next ≡ t → list_any (int_eq id) a.gone ≡ list_any (int_eq id) b.gone
       go id true lt = gone_at a oa id lt ∙ removals a b oa ob id lt (at a id) (at b id) refl refl (seen_same id) ∙ sym (gone_at b ob id lt)
       go id false ge = none_from id g.next a.gone (gone_low a oa) (lt_is_false id g.next ge)
-      ∙ sym (none_from id g.next b.gone (gone_low b ob) (lt_is_false id g.next ge))
+          ∙ sym (none_from id g.next b.gone (gone_low b ob) (lt_is_false id g.next ge))
 
     both_same : a ≡ b
     both_same =

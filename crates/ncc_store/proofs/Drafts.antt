@@ -45,7 +45,7 @@ owned_remove k [] = refl
 owned_remove k (e ∷ es) = go (is_at (λ (q : Bor Name). slice_cmp nat_cmp k q.now) e.0) refl (owned_remove k es)
   where
     go : (b : Bool) → is_at (λ (q : Bor Name). slice_cmp nat_cmp k q.now) e.0 ≡ b
-    → owned (remove_entry (is_at (λ q. slice_cmp nat_cmp k q.now)) es) ≡ remove_entry (is_at (name_cmp k)) (owned es)
+        → owned (remove_entry (is_at (λ q. slice_cmp nat_cmp k q.now)) es) ≡ remove_entry (is_at (name_cmp k)) (owned es)
         → owned (remove_entry (is_at (λ q. slice_cmp nat_cmp k q.now)) (e ∷ es)) ≡ remove_entry (is_at (name_cmp k)) (owned (e ∷ es))
     go true b rest = rw b refl
     go false b rest = rw b (ap (λ (ps : Props). (e.0.now, e.1) ∷ ps) rest)

@@ -31,7 +31,8 @@ at_key-push q [] p h = rw (nat_list_eq_equiv.symm p.0 q) refl
 at_key-push q (x ∷ ps) p h = go (bytes_eq p.0 x.0) (bytes_eq q x.0) refl refl (at_key-push q ps p)
   where
     go : (a b : Bool) → bytes_eq p.0 x.0 ≡ a → bytes_eq q x.0 ≡ b → (list_any (bytes_eq p.0) (keys ps) ≡ false → at_key q (ps ++ p ∷ [])
-    ≡ cond (bytes_eq p.0 q) (Some p.1) (at_key q ps)) → at_key q (x ∷ ps ++ p ∷ []) ≡ cond (bytes_eq p.0 q) (Some p.1) (at_key q (x ∷ ps))
+        ≡ cond (bytes_eq p.0 q) (Some p.1) (at_key q ps)) → at_key q (x ∷ ps ++ p ∷ [])
+        ≡ cond (bytes_eq p.0 q) (Some p.1) (at_key q (x ∷ ps))
     go true b e f rest = absurd (let g : true ≡ false = rw e at h in cc)
     go false true e f rest =
         let same : q ≡ x.0 = (bytes_decides q x.0).0 f in

@@ -56,14 +56,14 @@ short_integer : (z : ℤ) → length (integer z) ≤ 9
 unfolding integer
 short_integer z = go (int_le (negsuc 15) z && int_lt z (pos 128)) (int_le (negsuc 127) z && int_lt z (pos 128))
     (int_le (negsuc 0x7FFF) z && int_lt z (pos 0x8000)) (int_le (negsuc 0x7FFF_FFFF) z && int_lt z (pos 0x8000_0000)) where
-  go : (a b c d : Bool) → length (cond a (cast_unsigned w8 z ∷ []) (cond b (0xC8 ∷ cast_unsigned w8 z ∷ [])
-      (cond c (0xC9 ∷ to_be_bytes w16 (cast_unsigned w16 z)) (cond d (0xCA ∷ to_be_bytes w32 (cast_unsigned w32 z))
-      (0xCB ∷ to_be_bytes w64 (cast_unsigned w64 z)))))) ≤ 9
-  go true b c d = omega arith
-  go false true c d = omega arith
-  go false false true d = omega arith
-  go false false false true = omega arith
-  go false false false false = omega arith
+      go : (a b c d : Bool) → length (cond a (cast_unsigned w8 z ∷ []) (cond b (0xC8 ∷ cast_unsigned w8 z ∷ [])
+          (cond c (0xC9 ∷ to_be_bytes w16 (cast_unsigned w16 z)) (cond d (0xCA ∷ to_be_bytes w32 (cast_unsigned w32 z))
+          (0xCB ∷ to_be_bytes w64 (cast_unsigned w64 z)))))) ≤ 9
+      go true b c d = omega arith
+      go false true c d = omega arith
+      go false false true d = omega arith
+      go false false false true = omega arith
+      go false false false false = omega arith
 
 one_list_len : (b : List ℕ) → length (list (b ∷ [])) ≡ suc (length (b ++ []))
 unfolding list head
@@ -132,7 +132,7 @@ rows_are params is count bytes (n ∷ ns) rs f e =
     go one.0 (row_is params is n one.0 one.1.0) (few (count + 1) (bytes + row_len one.0)) refl one.1.1 (λ r xs g h. rows_are params is
     (count + 1) (bytes + row_len r) ns xs g h) where
       go : (r : List Value) → row_keeps r ≡ true → (t : Bool) → few (count + 1) (bytes + row_len r) ≡ t
-      → cond t (rows params is (count + 1) (bytes + row_len r) ns >>= λ xs. Ok (r ∷ xs)) (Err TooManyRows) ≡ Ok rs
+          → cond t (rows params is (count + 1) (bytes + row_len r) ns >>= λ xs. Ok (r ∷ xs)) (Err TooManyRows) ≡ Ok rs
           → ((x : List Value) (xs : List (List Value)) → few (count + 1) (bytes + row_len x) ≡ true
           → rows params is (count + 1) (bytes + row_len x) ns ≡ Ok xs → Kept (count + 1) (bytes + row_len x) xs) → Kept count bytes rs
       go r k true g q again =

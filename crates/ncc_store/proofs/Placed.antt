@@ -152,7 +152,7 @@ same_found (n ∷ ns) (m ∷ ms) a b h = go (int_cmp n.id m.id) refl (same_found
   past e id = at (int_eq n.id id) refl where
     at : (t : Bool) → int_eq n.id id ≡ t → find id ns ≡ find id ms
     at true g = let k : n.id ≡ id = same_id n.id id g in find_above id ns (subst (λ i. Above i ns) k (above_head n ns a))
-    ∙ sym (find_above id ms (subst (λ i. Above i ms) (sym e ∙ k) (above_head m ms b)))
+        ∙ sym (find_above id ms (subst (λ i. Above i ms) (sym e ∙ k) (above_head m ms b)))
     at false g = sym (find_past id n ns g) ∙ h id ∙ find_past id m ms (ap (λ (i : ℤ). int_eq i id) (sym e) ∙ g)
 
   go : (o : Ordering) → int_cmp n.id m.id ≡ o → (((id : ℤ) → find id ns ≡ find id ms) → ns ≡ ms) → n ∷ ns ≡ m ∷ ms

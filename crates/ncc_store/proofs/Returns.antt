@@ -77,7 +77,7 @@ module _ (params : Props) (list : List Item) (ns : List (Option (Bor StoredNode)
         after ∙ rw (of, f) refl
 
     pub next_row : count + 1 ≤ max_rows → bytes + len ≤ max_bytes → with_front (front ++ r ∷ []) (rows params list (count + 1)
-    (bytes + len) (map option_copied (drop (i + 1) ns))) ≡ all
+        (bytes + len) (map option_copied (drop (i + 1) ns))) ≡ all
     unfolding within
     next_row h k =
         let f : few (count + 1) (bytes + row_len r) ≡ true = rw (← of_len) (is_few (count + 1) (bytes + len) h k) in

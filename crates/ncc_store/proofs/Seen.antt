@@ -75,15 +75,15 @@ pub find_below : (id : ℤ) (es : Written) (ns : List StoredNode) → NodesAt es
 find_below id es [] all a = ap (find id) (seen_below_nil es) ∙ find_nil id ∙ sym (ap (cover (written_at id es)) (find_nil id))
 find_below id es (n ∷ ns) all a = ap (find id) (seen_below_cons es n ns)
     ∙ go (int_eq n.id id) refl (find_below id es ns all (ascends_tail n ns a)) where
-  go : (t : Bool) → int_eq n.id id ≡ t → find id (seen_below es ns) ≡ cover (written_at id es) (find id ns)
-      → find id (seen_one n (written_at n.id es) ++ seen_below es ns) ≡ cover (written_at id es) (find id (n ∷ ns))
-  go true h again =
-      let same : n.id ≡ id = same_id n.id id h in
-      let past : find id ns ≡ None = find_above id ns (subst (λ i. Above i ns) same (above_head n ns a)) in
-      meets id n (written_at n.id es) (seen_below es ns) (is_at n.id es all) same (again ∙ ap (cover (written_at id es)) past)
-      ∙ ap (λ (i : ℤ). cover (written_at i es) (Some n)) same ∙ sym (ap (cover (written_at id es)) (find_here id n ns same))
-  go false h again = skips id n (written_at n.id es) (seen_below es ns) (is_at n.id es all) h ∙ again
-      ∙ sym (ap (cover (written_at id es)) (find_past id n ns h))
+      go : (t : Bool) → int_eq n.id id ≡ t → find id (seen_below es ns) ≡ cover (written_at id es) (find id ns)
+          → find id (seen_one n (written_at n.id es) ++ seen_below es ns) ≡ cover (written_at id es) (find id (n ∷ ns))
+      go true h again =
+          let same : n.id ≡ id = same_id n.id id h in
+          let past : find id ns ≡ None = find_above id ns (subst (λ i. Above i ns) same (above_head n ns a)) in
+          meets id n (written_at n.id es) (seen_below es ns) (is_at n.id es all) same (again ∙ ap (cover (written_at id es)) past)
+          ∙ ap (λ (i : ℤ). cover (written_at i es) (Some n)) same ∙ sym (ap (cover (written_at id es)) (find_here id n ns same))
+      go false h again = skips id n (written_at n.id es) (seen_below es ns) (is_at n.id es all) h ∙ again
+          ∙ sym (ap (cover (written_at id es)) (find_past id n ns h))
 
 abbrev pub flat : Option (Option StoredNode) → Option StoredNode
 flat None = None
@@ -107,30 +107,30 @@ find_fresh id k [] all s = ap (find id) (fresh_nil k) ∙ find_nil id ∙ none (
   none false = refl
 find_fresh id k (e ∷ es) all s = go (int_lt e.0 k) refl (int_eq id e.0) refl (find_fresh id k es (All-tail (λ x. IsNodeAt x.0 x.1) e es
     all) (keys_tail e es s)) where
-  at : IsNodeAt e.0 e.1
-  at = All-head (λ x. IsNodeAt x.0 x.1) e es all
+      at : IsNodeAt e.0 e.1
+      at = All-head (λ x. IsNodeAt x.0 x.1) e es all
 
-  gone : id ≡ e.0 → find id (fresh k es) ≡ cond (int_lt id k) None (flat (written_at id es)) → int_lt id k ≡ false
-      → find id (fresh k es) ≡ None
-  gone same again h = again ∙ ap (λ (t : Bool). cond t None (flat (written_at id es))) h
-      ∙ ap flat (written_above id es (subst (λ i. KeysAbove i es) (sym same) (keys_head e es s)))
+      gone : id ≡ e.0 → find id (fresh k es) ≡ cond (int_lt id k) None (flat (written_at id es)) → int_lt id k ≡ false
+          → find id (fresh k es) ≡ None
+      gone same again h = again ∙ ap (λ (t : Bool). cond t None (flat (written_at id es))) h
+          ∙ ap flat (written_above id es (subst (λ i. KeysAbove i es) (sym same) (keys_head e es s)))
 
-  go : (t : Bool) → int_lt e.0 k ≡ t → (u : Bool) → int_eq id e.0 ≡ u → find id (fresh k es) ≡ cond (int_lt id k) None
-      (flat (written_at id es)) → find id (fresh k (e ∷ es)) ≡ cond (int_lt id k) None (flat (written_at id (e ∷ es)))
-  go true h true g again =
-      let lt : int_lt id k ≡ true = ap (λ (i : ℤ). int_lt i k) (same_id id e.0 g) ∙ h in
-      ap (find id) (fresh_old k e es h) ∙ again ∙ ap (λ (t : Bool). cond t None (flat (written_at id es))) lt
-      ∙ sym (ap (λ (t : Bool). cond t None (flat (written_at id (e ∷ es)))) lt)
-  go true h false g again = ap (find id) (fresh_old k e es h) ∙ again
-      ∙ sym (ap (λ (w : Option (Option StoredNode)). cond (int_lt id k) None (flat w)) (written_past id e es g))
-  go false h true g again =
-      let same : id ≡ e.0 = same_id id e.0 g in
-      let lt : int_lt id k ≡ false = ap (λ (i : ℤ). int_lt i k) same ∙ h in
-      ap (find id) (fresh_new k e es h) ∙ one_here id e.1 (fresh k es) (subst (λ i. IsNodeAt i e.1) (sym same) at) (gone same again lt)
-      ∙ sym (ap (λ (t : Bool). cond t None (flat (written_at id (e ∷ es)))) lt ∙ ap flat (written_here id e es (sym same)))
-  go false h false g again =
-      ap (find id) (fresh_new k e es h) ∙ one_past id e.0 e.1 (fresh k es) at g ∙ again
-      ∙ sym (ap (λ (w : Option (Option StoredNode)). cond (int_lt id k) None (flat w)) (written_past id e es g))
+      go : (t : Bool) → int_lt e.0 k ≡ t → (u : Bool) → int_eq id e.0 ≡ u → find id (fresh k es) ≡ cond (int_lt id k) None
+          (flat (written_at id es)) → find id (fresh k (e ∷ es)) ≡ cond (int_lt id k) None (flat (written_at id (e ∷ es)))
+      go true h true g again =
+          let lt : int_lt id k ≡ true = ap (λ (i : ℤ). int_lt i k) (same_id id e.0 g) ∙ h in
+          ap (find id) (fresh_old k e es h) ∙ again ∙ ap (λ (t : Bool). cond t None (flat (written_at id es))) lt
+          ∙ sym (ap (λ (t : Bool). cond t None (flat (written_at id (e ∷ es)))) lt)
+      go true h false g again = ap (find id) (fresh_old k e es h) ∙ again
+          ∙ sym (ap (λ (w : Option (Option StoredNode)). cond (int_lt id k) None (flat w)) (written_past id e es g))
+      go false h true g again =
+          let same : id ≡ e.0 = same_id id e.0 g in
+          let lt : int_lt id k ≡ false = ap (λ (i : ℤ). int_lt i k) same ∙ h in
+          ap (find id) (fresh_new k e es h) ∙ one_here id e.1 (fresh k es) (subst (λ i. IsNodeAt i e.1) (sym same) at) (gone same again lt)
+          ∙ sym (ap (λ (t : Bool). cond t None (flat (written_at id (e ∷ es)))) lt ∙ ap flat (written_here id e es (sym same)))
+      go false h false g again =
+          ap (find id) (fresh_new k e es h) ∙ one_past id e.0 e.1 (fresh k es) at g ∙ again
+          ∙ sym (ap (λ (w : Option (Option StoredNode)). cond (int_lt id k) None (flat w)) (written_past id e es g))
 
 -- what is written, or else what stands below
 abbrev pub over : Option (Option StoredNode) → Option StoredNode → Option StoredNode
@@ -158,7 +158,7 @@ find_seen g next es l id =
     (nodes_at g next es l) l.ordered)
     ∙ go (written_at id es) refl (int_lt id g.next) refl (find id g.nodes) refl where
       go : (w : Option (Option StoredNode)) → written_at id es ≡ w → (t : Bool) → int_lt id g.next ≡ t → (o : Option StoredNode)
-      → find id g.nodes ≡ o → or_next (cover w o) (cond t None (flat w)) ≡ over w o
+          → find id g.nodes ≡ o → or_next (cover w o) (cond t None (flat w)) ≡ over w o
       go None e true h None f = refl
       go None e false h None f = refl
       go None e t h (Some n) f = refl
@@ -219,12 +219,12 @@ pub ascends_fresh : (j : ℤ) (es : Written) → NodesAt es → Keyed es → Asc
 ascends_fresh j [] all s = subst Ascends (sym (fresh_nil j)) ascends_nil
 ascends_fresh j (e ∷ es) all s = go (int_lt e.0 j) refl (ascends_fresh j es (All-tail (λ x. IsNodeAt x.0 x.1) e es all)
     (keys_tail e es s)) where
-  go : (t : Bool) → int_lt e.0 j ≡ t → Ascends (fresh j es) → Ascends (fresh j (e ∷ es))
-  go true h b = subst Ascends (sym (fresh_old j e es h)) b
-  go false h b =
-      subst Ascends (sym (fresh_new j e es h))
-      (onto_one e.0 e.1 (fresh j es) (All-head (λ x. IsNodeAt x.0 x.1) e es all) (above_fresh e.0 j es (All-tail (λ x. IsNodeAt x.0 x.1)
-      e es all) (keys_head e es s)) b)
+      go : (t : Bool) → int_lt e.0 j ≡ t → Ascends (fresh j es) → Ascends (fresh j (e ∷ es))
+      go true h b = subst Ascends (sym (fresh_old j e es h)) b
+      go false h b =
+          subst Ascends (sym (fresh_new j e es h))
+          (onto_one e.0 e.1 (fresh j es) (All-head (λ x. IsNodeAt x.0 x.1) e es all) (above_fresh e.0 j es (All-tail (λ x. IsNodeAt x.0 x.1)
+          e es all) (keys_head e es s)) b)
 
 -- ---- what holds of each node that is seen
 
@@ -287,10 +287,16 @@ module _ (g : Graph) (next : ℤ) (es : Written) (l : IsLayered g next es) where
       let P : StoredNode → Type 0 = λ n. (pos 0 ≤ℤ n.id) × (n.id <ℤ next) in
       All-append P (seen_below es g.nodes) (fresh g.next es)
       (all_below P es g.nodes stand (λ n m h e k. (subst (λ i. pos 0 ≤ℤ i) (sym e) h.0, subst (λ i. i <ℤ next) (sym e) h.1))
-      (All-weaker (λ n. (pos 0 ≤ℤ n.id) × (n.id <ℤ g.next)) P (λ n h. (h.0, let a : n.id <ℤ g.next = h.1 in let b : g.next ≤ℤ next =
-      l.low in omega (arith, ints))) g.nodes l.below.placed.below))
-      (all_fresh P (IsWritten g next) g.next es (λ e m h k f. (subst (λ i. pos 0 ≤ℤ i) (sym (node_at e.0 e.1 m k.3 f).0) k.0, subst
-      (λ i. i <ℤ next) (sym (node_at e.0 e.1 m k.3 f).0) k.1)) l.written)
+      (All-weaker (λ n. (pos 0 ≤ℤ n.id) × (n.id <ℤ g.next)) P (λ n h. (
+        h.0,
+        let a : n.id <ℤ g.next = h.1 in let b : g.next ≤ℤ next =
+            l.low in omega (arith, ints),
+      )) g.nodes l.below.placed.below))
+      (all_fresh P (IsWritten g next) g.next es (λ e m h k f. (
+        subst (λ i. pos 0 ≤ℤ i) (sym (node_at e.0 e.1 m k.3 f).0) k.0,
+        subst
+            (λ i. i <ℤ next) (sym (node_at e.0 e.1 m k.3 f).0) k.1,
+      )) l.written)
 
   nodes_seen : All IsNode (seen g next es).nodes
   nodes_seen =
@@ -320,8 +326,11 @@ pub node_over : (es : Written) (q : ℤ) (o : Option StoredNode) (r : Option (Bo
     → option_copied r ≡ o → IfSome r (λ n. IsNode n.now)
 node_over es q o r at w e = node_in q o r (written_holds (λ x. IsNodeAt x.0 x.1) q es o at (sym w)) e
 
-module _ (g : Graph) (next : ℤ) (es : Written) (s : Layers) (l : IsLayered g next es) (view : ◌≡◌ {A = Layers} (record { base =
-    g; graph = seen g next es }) s) (q id : ℤ) (same : q ≡ id) where
+module _ (g : Graph) (next : ℤ) (es : Written) (s : Layers) (l : IsLayered g next es) (view : ◌≡◌ {A = Layers} (record {
+  base =
+      g;
+  graph = seen g next es;
+}) s) (q id : ℤ) (same : q ≡ id) where
   at_id : (r : Option StoredNode) → r ≡ over (written_at q es) (find q g.nodes) → r ≡ find id s.graph.nodes
   at_id r e = e ∙ ap (λ (i : ℤ). over (written_at i es) (find i g.nodes)) same ∙ sym (find_seen g next es l id)
       ∙ ap (λ (x : Layers). find id x.graph.nodes) view

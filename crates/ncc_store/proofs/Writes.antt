@@ -69,7 +69,8 @@ pub seen_replaced : (g : Graph) (next : ℤ) (es new : Written) (m : StoredNode)
 seen_replaced g next es new m l k up there = same_found _ _ (ascends_seen g next new k) (ascends_replace m _ (ascends_seen g next es l))
     (λ id. find_seen g next new k id ∙ ap (λ (w : Option (Option StoredNode)). over w (find id g.nodes)) (up id)
     ∙ go id (int_eq m.id id) refl) where
-      here : (o : Option StoredNode) → find m.id (seen g next es).nodes ≡ o → IsSome o → find m.id (replace m (seen g next es).nodes) ≡ Some m
+      here : (o : Option StoredNode) → find m.id (seen g next es).nodes ≡ o → IsSome o → find m.id (replace m (seen g next es).nodes)
+          ≡ Some m
       here None e some = absurd (cc)
       here (Some x) e some = find_replaced m x (seen g next es).nodes e
 
@@ -86,7 +87,8 @@ seen_removed g next es new k l h up = same_found _ _ (ascends_seen g next new h)
     ∙ go id (int_eq k id) refl) where
       go : (id : ℤ) (t : Bool) → int_eq k id ≡ t → over (cond t (Some None) (written_at id es)) (find id g.nodes)
           ≡ find id (without k (seen g next es).nodes)
-      go id true e = sym (ap (λ (i : ℤ). find i (without k (seen g next es).nodes)) (sym (same_id k id e)) ∙ find_gone k (seen g next es).nodes)
+      go id true e = sym (ap (λ (i : ℤ). find i (without k (seen g next es).nodes)) (sym (same_id k id e))
+          ∙ find_gone k (seen g next es).nodes)
       go id false e = sym (find_seen g next es l id) ∙ sym (find_kept id k (seen g next es).nodes e)
 
 -- ---- a node with the next id

@@ -105,7 +105,7 @@ impl ChangeSet {
 
 /// How many items at the front of two logs have the same terms: the greatest such number. Where the logs are of one
 /// cluster these items are the same.
-#[tactic(auto, using(crate::proofs::Terms::parted_at, crate::proofs::Terms::parted_end, crate::proofs::Terms::same_more, crate::proofs::Terms::same_front, crate::proofs::Terms::all_same))]
+#[tactic(auto, using(crate::proofs::Terms::parts))]
 pub fn same_terms(items: &[Item], others: &[Item]) -> usize
     ensures most { SameTerms items.now others.now result }
 {

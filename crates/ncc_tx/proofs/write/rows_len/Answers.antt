@@ -6,10 +6,12 @@ use Rattle.ncc_tx.proofs.Pairs.{whole_by}
 use Rattle.ncc_tx.proofs.write.rows_len.Goals as goal
 
 pub values_len-requires : goal.values_len-requires
-values_len-requires c =
-    whole_by c.fits_deeper.ensures.deeper (v.List c.row-item.result)
-    (item_fits v.List c.args.rows.now 30 c.as_slice-row-items.result.now c.loop-row.row-index c.row-item.result
-    (omega arith) c.as_slice-row-items.ensures.same c.loop-row-test.true c.row-item.is c.requires)
+values_len-requires c = record {
+  fits =
+      whole_by c.fits_deeper.ensures.deeper (v.List c.row-item.result)
+      (item_fits v.List c.args.rows.now 30 c.as_slice-row-items.result.now c.loop-row.row-index c.row-item.result
+      (omega arith) c.as_slice-row-items.ensures.same c.loop-row-test.true c.row-item.is c.requires);
+}
 
 pub loop-row-preserved : goal.loop-row-preserved
 loop-row-preserved c =
