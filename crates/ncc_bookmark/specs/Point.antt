@@ -1,4 +1,4 @@
--- The place that a bookmark names.
+-- The place that a bookmark names. A bookmark is of this project: no public standard says what stands in one.
 use Rattle.std.specs.Prelude.{ℕ, ◌<◌, ◌^◌, max, List, [], ◌∷◌}
 
 -- a place of the history of a cluster

@@ -1,4 +1,4 @@
--- The point that a text names, as a function, through the decoding of base64 in the standard alphabet of RFC 4648.
+-- The point that a text names, as a function, through the decoding of base64 in the standard alphabet of RFC 4648, section 4.
 use Rattle.std.specs.Prelude.{ℕ, ◌^◌, Bool, ◌&&◌, List, take, drop, Option, Some, None, nat_lt, ◌==◌, bytes_eq, if◌then◌else◌}
 use Rattle.std.specs.Int.{w64, from_be_bytes}
 use Rattle.std.specs.declared.result.Result.{Result}

@@ -1,4 +1,4 @@
--- The one text of a bookmark: `ncc:` and the base64, in the standard alphabet of RFC 4648, of 18 bytes.
+-- The one text of a bookmark: `ncc:` and the base64, in the standard alphabet of RFC 4648, section 4, of 18 bytes.
 use Rattle.std.specs.Prelude.{ℕ, List, [], ◌∷◌, ◌++◌, codes}
 use Rattle.std.specs.Int.{w64, to_be_bytes}
 use Rattle.base64.specs.Engines.{standard}

@@ -1,4 +1,4 @@
--- Which texts are those of bookmarks.
+-- Which texts are those of bookmarks: those that `text_of` spells, in base64 with the standard alphabet of RFC 4648, section 4.
 use Rattle.std.specs.Prelude.{◌≡◌, ◌≢◌, ◌<◌, ◌^◌, ◌⊎◌, ℕ, List}
 use Rattle.std.specs.declared.result.Result.{Result}
 use Rattle.std.specs.declared.result.Result.TheVariants.{Err}

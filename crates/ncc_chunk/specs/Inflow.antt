@@ -1,4 +1,4 @@
--- What a dechunker keeps, and which streams it stands for.
+-- What a dechunker keeps, and which streams it stands for (Bolt Protocol message specification, the section on chunking).
 use Rattle.std.specs.Prelude.{◌≡◌, ℕ, ◌+◌, ◌<◌, ◌≤◌, List, [], ◌∷◌, ◌++◌, length, ◌↔◌}
 use Rattle.ncc_chunk.specs.declared.dechunker.Place.{Place}
 use Rattle.ncc_chunk.specs.declared.dechunker.Place.TheVariants.{Between, InHead, InBody, Stopped}

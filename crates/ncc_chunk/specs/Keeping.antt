@@ -1,4 +1,5 @@
--- What the steps of a dechunker take and leave. No public clause speaks of it.
+-- What the steps of a dechunker take and leave (Bolt Protocol message specification, the section on chunking). No public clause
+-- speaks of it.
 use Rattle.std.specs.Prelude.{◌≡◌, ℕ, zero, suc, ◌+◌, ◌-◌, ◌<◌, ◌≤◌, List, [], ◌∷◌, ◌++◌, length, drop, Option, Some, None}
 use Rattle.ncc_chunk.specs.declared.dechunker.Dechunk.{Dechunk}
 use Rattle.ncc_chunk.specs.declared.dechunker.Dechunk.TheVariants.{Again, TooLong}

@@ -1,4 +1,4 @@
--- What is so of streams of messages.
+-- What is so of streams of messages (Bolt Protocol message specification, the section on chunking).
 use Rattle.std.specs.Prelude.{◌≡◌, ◌⊎◌, ◌↔◌, ◌<◌, ◌≤◌, ◌++◌, ◌∷◌, ℕ, List, length, IsTrue}
 use Rattle.ncc_chunk.specs.Chunks.{Chunks, Framed, PastLimit, EndsAfter, IsTooLongAfter, limit}
 use Rattle.ncc_chunk.specs.Chunked.{chunks_of, chunked}

@@ -1,6 +1,6 @@
 -- Steps of the loops that ask whether values fit.
 use Rattle.std.proofs.Common.{◌≡◌, ℕ, zero, suc, ◌-◌, ◌+◌, ◌<◌, ◌≤◌, Bool, true, false, not, cond, eqb, ◌||◌, ◌&&◌, List, [], ◌∷◌, ◌++◌}
-use Rattle.std.proofs.Common.{length, map, take, drop, get_or, refl, sym, ap, ◌∙◌, arith}
+use Rattle.std.proofs.Common.{length, map, take, drop, get_or, refl, sym, ap, ◌∙◌, subst, arith}
 use Rattle.std.specs.Prelude.{nat_le, IsUtf8, ℤ, pos, negsuc}
 use Rattle.std.specs.Borrow.{Bor}
 use Rattle.std.specs.List.{list_all, list_any}
@@ -17,12 +17,15 @@ use Rattle.std.proofs.lemmas.List.{length-map, take_all, map_push, drop_all}
 use Rattle.std.proofs.lemmas.List.Folds.{list_all-map, list_all_at, list_all_more, list_any-append}
 use Rattle.std.proofs.lemmas.Map.Text.{is_eq-slice_cmp}
 use Rattle.std.proofs.Math.Seq.{drop-cons, take-suc}
-use Rattle.ncc_pack.specs.declared.value.Value.{Value}
+use Rattle.ncc_pack.specs.declared.value.Value.{Value, map-Value, roll-Value, out-Value, roll-out-Value}
+use Rattle.ncc_pack.specs.declared.value.Value.TheOpen.{Value-F}
+use Rattle.ncc_pack.specs.declared.value.Value.TheVariants as v
+use Rattle.ncc_pack.specs.Texts.{is_text, texts_alone}
 use Rattle.ncc_pack.specs.Limits.{max_size}
 use Rattle.ncc_pack.specs.Keys.{keys, distinct}
-use Rattle.ncc_pack.specs.Fits.{Fit, fit, fit_pair, fits_text, fits_list, fits_dict, fits_within, fits_i64, fits_node}
+use Rattle.ncc_pack.specs.Fits.{Fit, fit, fit_pair, fits_text, fits_list, fits_dict, fits_within, fits_i64, fits_node, fits_step}
 use Rattle.ncc_pack.specs.declared.value.NodeValue.{NodeValue}
-use Rattle.ncc_pack.proofs.Loops.{node_fits_by}
+use Rattle.ncc_pack.proofs.Loops.{node_fits_by, fit_of}
 
 -- ---- numbers and texts
 
@@ -78,13 +81,37 @@ dict_more ps (suc d) lt =
     let e : suc d - 1 ≡ d = omega arith in
     rw (e, length-map ps fit_pair, list_all-map (λ (p : List ℕ × Fit). fits_text p.0 && p.1.levels d) fit_pair ps, same_keys [] ps) refl
 
+-- whether a value is a text is told beside its levels
+abbrev Told : Value → Type 0
+Told x = (fit x).is_text ≡ is_text x
+
+told : (x : Value) (l : Value-F Value NodeValue) (is : roll-Value l ≡ x)
+    → (fits_step (map-Value Value NodeValue Fit (ℕ → Bool) fit fits_node l)).is_text ≡ is_text x → Told (roll-Value l)
+told x l is e = subst Told (sym is) (ap (λ (f : Fit). f.is_text) (fit_of x l is) ∙ e)
+
+told_by : (l : Value-F Value NodeValue) → Told (roll-Value l)
+told_by Value-F.Null = told v.Null Value-F.Null v.rolls-Null refl
+told_by (Value-F.Bool b) = told (v.Bool b) (Value-F.Bool b) (v.rolls-Bool b) refl
+told_by (Value-F.Int z) = told (v.Int z) (Value-F.Int z) (v.rolls-Int z) refl
+told_by (Value-F.Bytes b) = told (v.Bytes b) (Value-F.Bytes b) (v.rolls-Bytes b) refl
+told_by (Value-F.Text t) = told (v.Text t) (Value-F.Text t) (v.rolls-Text t) refl
+told_by (Value-F.List xs) = told (v.List xs) (Value-F.List xs) (v.rolls-List xs) refl
+told_by (Value-F.Dict ps) = told (v.Dict ps) (Value-F.Dict ps) (v.rolls-Dict ps) refl
+told_by (Value-F.Node n) = told (v.Node n) (Value-F.Node n) (v.rolls-Node n) refl
+
+told_text : (x : Value) → Told x
+told_text x = subst Told (roll-out-Value x) (told_by (out-Value x))
+
+told_alone : (xs : List Value) → list_all (λ x. (fit x).is_text) xs ≡ texts_alone xs
+told_alone [] = refl
+told_alone (x ∷ xs) = rw (told_text x, told_alone xs) refl
+
 pub node_more : (n : NodeValue) (d : ℕ) → 0 < d → fits_node n d
-    ≡ (fits_i64 n.id && (fits_list (map fit n.labels) (d - 1) && list_all (λ x. (fit x).is_text) n.labels) && fits_dict
-    (map fit_pair n.props) (d - 1))
+    ≡ (fits_i64 n.id && (fits_list (map fit n.labels) (d - 1) && texts_alone n.labels) && fits_dict (map fit_pair n.props) (d - 1))
 node_more n zero lt = absurd (omega arith)
 node_more n (suc d) lt =
     let e : suc d - 1 ≡ d = omega arith in
-    ap (λ (f : ℕ → Bool). f (suc d)) (node_fits_by n) ∙ rw (e, list_all-map (λ (f : Fit). f.is_text) fit n.labels) refl
+    ap (λ (f : ℕ → Bool). f (suc d)) (node_fits_by n) ∙ rw (e, list_all-map (λ (f : Fit). f.is_text) fit n.labels, told_alone n.labels) refl
 
 -- ---- keys
 

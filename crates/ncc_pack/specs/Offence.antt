@@ -6,6 +6,7 @@ use Rattle.ncc_pack.specs.declared.value.Value.{Value}
 use Rattle.ncc_pack.specs.declared.error.PackError.{PackError}
 use Rattle.ncc_pack.specs.declared.error.PackError.TheVariants.{Short, Float, BadMarker, BadUtf8, RepeatedKey}
 use Rattle.ncc_pack.specs.declared.error.PackError.TheVariants.{KeyNotText, TooDeep, TooLong, Memory}
+use Rattle.ncc_pack.specs.Markers.{float_marker}
 use Rattle.ncc_pack.specs.Reading.{read_value}
 use Rattle.ncc_pack.specs.Spells.{SpellsText, spells}
 
@@ -51,7 +52,7 @@ MayGoOn _ b = MayBegin b
 -- which bytes a refusal calls an offence: a marker, a marker and a size, a key, or the rest of a text, which no character begins
 abbrev pub Offends : PackError → List ℕ → Type 0
 Offends Short o = ⊥
-Offends (Float at) o = o ≡ 0xC1 ∷ []
+Offends (Float at) o = o ≡ float_marker ∷ []
 Offends (BadMarker at) o = length o ≡ 1
 Offends (BadUtf8 at) o = (0 < length o) × ((w : ℕ) → 0 < w → w ≤ length o → ¬ (IsUtf8 (take w o)))
 Offends (RepeatedKey at) o = (key : List ℕ) × SpellsText key o

@@ -17,6 +17,7 @@ use Rattle.ncc_pack.specs.declared.mark.Mark.TheVariants as k
 use Rattle.ncc_pack.specs.declared.mark.Size.{Size}
 use Rattle.ncc_pack.specs.declared.mark.Size.TheVariants.{Here, One, Two, Four}
 use Rattle.ncc_pack.specs.Marker.{marker}
+use Rattle.ncc_pack.specs.Markers.{node_tag}
 use Rattle.ncc_pack.specs.Limits.{max_size, max_depth}
 
 infixl 10 ◌>>=◌
@@ -173,7 +174,7 @@ props_at total hold bytes = marked total (props_by hold) bytes
 -- the tag of a node
 unfoldable pub tag_at : ℕ → List ℕ → Result (List ℕ) PackError
 tag_at total [] = Err Short
-tag_at total (t ∷ bytes) = if t == 0x4E then Ok bytes else Err (BadMarker (total - length (t ∷ bytes)))
+tag_at total (t ∷ bytes) = if t == node_tag then Ok bytes else Err (BadMarker (total - length (t ∷ bytes)))
 
 unfoldable pub fields_at : ℕ → Holders → List ℕ → Read NodeValue
 fields_at total hold bytes = tag_at total bytes >>= λ after. id_at total after >>= λ id. labels_at total id.1 >>= λ labels.

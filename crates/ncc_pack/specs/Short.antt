@@ -5,6 +5,8 @@ use Rattle.std.specs.Int.{w8, w16, w32, w64, to_be_bytes, cast_unsigned}
 use Rattle.ncc_pack.specs.declared.value.Value.{Value, fold-Value}
 use Rattle.ncc_pack.specs.declared.value.NodeValue.{NodeValue, fold-NodeValue}
 use Rattle.ncc_pack.specs.declared.value.Value.TheOpen.{Value-F, NodeValue-F}
+use Rattle.ncc_pack.specs.Markers.{null_marker, false_marker, true_marker, int1_marker, int2_marker, int4_marker, int8_marker}
+use Rattle.ncc_pack.specs.Markers.{node_marker, node_tag}
 use Rattle.ncc_pack.specs.Spells.{Kind, texts, lists, dicts, bytes_mark}
 
 -- a size in the fewest bytes behind a marker
@@ -20,10 +22,10 @@ head kind n = if nat_lt n 16 then (kind.tiny + n) ∷ [] else wide_head kind.wid
 unfoldable pub integer : ℤ → List ℕ
 integer z =
     if int_le (negsuc 15) z && int_lt z (pos 128) then cast_unsigned w8 z ∷ []
-    else (if int_le (negsuc 127) z && int_lt z (pos 128) then 0xC8 ∷ cast_unsigned w8 z ∷ []
-    else (if int_le (negsuc 0x7FFF) z && int_lt z (pos 0x8000) then 0xC9 ∷ to_be_bytes w16 (cast_unsigned w16 z)
-    else (if int_le (negsuc 0x7FFF_FFFF) z && int_lt z (pos 0x8000_0000) then 0xCA ∷ to_be_bytes w32 (cast_unsigned w32 z)
-    else 0xCB ∷ to_be_bytes w64 (cast_unsigned w64 z))))
+    else (if int_le (negsuc 127) z && int_lt z (pos 128) then int1_marker ∷ cast_unsigned w8 z ∷ []
+    else (if int_le (negsuc 0x7FFF) z && int_lt z (pos 0x8000) then int2_marker ∷ to_be_bytes w16 (cast_unsigned w16 z)
+    else (if int_le (negsuc 0x7FFF_FFFF) z && int_lt z (pos 0x8000_0000) then int4_marker ∷ to_be_bytes w32 (cast_unsigned w32 z)
+    else int8_marker ∷ to_be_bytes w64 (cast_unsigned w64 z))))
 
 unfoldable pub text : List ℕ → List ℕ
 text t = head texts (length t) ++ t
@@ -47,11 +49,11 @@ unfoldable pub dict : List (List ℕ × List ℕ) → List ℕ
 dict ps = head dicts (length ps) ++ pairs ps
 
 abbrev pub boolean : Bool → List ℕ
-boolean false = 0xC2 ∷ []
-boolean true = 0xC3 ∷ []
+boolean false = false_marker ∷ []
+boolean true = true_marker ∷ []
 
 abbrev pub short_step : Value-F (List ℕ) (List ℕ) → List ℕ
-short_step Value-F.Null = 0xC0 ∷ []
+short_step Value-F.Null = null_marker ∷ []
 short_step (Value-F.Bool b) = boolean b
 short_step (Value-F.Int z) = integer z
 short_step (Value-F.Bytes b) = bytes b
@@ -61,7 +63,7 @@ short_step (Value-F.Dict ps) = dict ps
 short_step (Value-F.Node n) = n
 
 abbrev pub node_step : NodeValue-F (List ℕ) (List ℕ) → List ℕ
-node_step n = 0xB3 ∷ 0x4E ∷ integer n.id ++ list n.labels ++ dict n.props
+node_step n = node_marker ∷ node_tag ∷ integer n.id ++ list n.labels ++ dict n.props
 
 abbrev pub short : Value → List ℕ
 short = fold-Value (List ℕ) (List ℕ) short_step node_step

@@ -7,6 +7,8 @@ use Rattle.ncc_pack.specs.declared.value.Value.TheVariants as v
 use Rattle.ncc_pack.specs.declared.value.NodeValue.{NodeValue}
 use Rattle.ncc_pack.specs.Limits.{max_size, max_depth}
 use Rattle.ncc_pack.specs.Keys.{distinct}
+use Rattle.ncc_pack.specs.Markers.{null_marker, false_marker, true_marker, int1_marker, int2_marker, int4_marker, int8_marker}
+use Rattle.ncc_pack.specs.Markers.{node_marker, node_tag}
 
 -- what marks a kind: the marker that has a small size in it, and the marker before a size of one byte
 pub record Kind : Type 0 where
@@ -41,10 +43,10 @@ pub data IsHead (kind : Kind) (n : ℕ) : List ℕ → Type 0 where
 pub data SpellsInt : ℤ → List ℕ → Type 0 where
   positive : (n : ℕ) → n < 128 → SpellsInt (pos n) (n ∷ [])
   negative : (n : ℕ) → n < 16 → SpellsInt (negsuc n) ((255 - n) ∷ [])
-  int1 : (n : ℕ) → n < 2 ^ 8 → SpellsInt (cast_signed w8 n) (0xC8 ∷ to_be_bytes w8 n)
-  int2 : (n : ℕ) → n < 2 ^ 16 → SpellsInt (cast_signed w16 n) (0xC9 ∷ to_be_bytes w16 n)
-  int4 : (n : ℕ) → n < 2 ^ 32 → SpellsInt (cast_signed w32 n) (0xCA ∷ to_be_bytes w32 n)
-  int8 : (n : ℕ) → n < 2 ^ 64 → SpellsInt (cast_signed w64 n) (0xCB ∷ to_be_bytes w64 n)
+  int1 : (n : ℕ) → n < 2 ^ 8 → SpellsInt (cast_signed w8 n) (int1_marker ∷ to_be_bytes w8 n)
+  int2 : (n : ℕ) → n < 2 ^ 16 → SpellsInt (cast_signed w16 n) (int2_marker ∷ to_be_bytes w16 n)
+  int4 : (n : ℕ) → n < 2 ^ 32 → SpellsInt (cast_signed w32 n) (int4_marker ∷ to_be_bytes w32 n)
+  int8 : (n : ℕ) → n < 2 ^ 64 → SpellsInt (cast_signed w64 n) (int8_marker ∷ to_be_bytes w64 n)
 
 -- a text: a head and UTF-8
 abbrev pub SpellsText : List ℕ → List ℕ → Type 0
@@ -74,9 +76,9 @@ pub record Holding : Type 1 where
   pub node : NodeValue → List ℕ → Type 0
 
 pub data Spells (hold : Holding) : Value → List ℕ → Type 0 where
-  null : Spells hold v.Null (0xC0 ∷ [])
-  no : Spells hold (v.Bool false) (0xC2 ∷ [])
-  yes : Spells hold (v.Bool true) (0xC3 ∷ [])
+  null : Spells hold v.Null (null_marker ∷ [])
+  no : Spells hold (v.Bool false) (false_marker ∷ [])
+  yes : Spells hold (v.Bool true) (true_marker ∷ [])
   int : (z : ℤ) (b : List ℕ) → SpellsInt z b → Spells hold (v.Int z) b
   bytes : (t h : List ℕ) → IsWide bytes_mark (length t) h → Spells hold (v.Bytes t) (h ++ t)
   text : (t b : List ℕ) → SpellsText t b → Spells hold (v.Text t) b
@@ -87,7 +89,7 @@ pub data Spells (hold : Holding) : Value → List ℕ → Type 0 where
 -- a node's three fields: its id, its labels as a list of texts, its properties
 abbrev pub Fields : Holding → NodeValue → List ℕ → Type 0
 Fields inside n b = (i : List ℕ) × (l : List ℕ) × (p : List ℕ) × SpellsInt n.id i × Listed lists Label n.labels l × inside.dict n.props p
-    × (b ≡ 0xB3 ∷ 0x4E ∷ i ++ l ++ p)
+    × (b ≡ node_marker ∷ node_tag ∷ i ++ l ++ p)
 
 -- with one level more than a node needs for its labels
 abbrev pub Node : ℕ → Holding → NodeValue → List ℕ → Type 0

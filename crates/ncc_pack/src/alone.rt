@@ -40,7 +40,7 @@ pub fn dict_fits(pairs: &Dict) -> bool
 /// Says whether a list fits where so many levels are left for lists, dictionaries and nodes, of the 32 in all.
 #[tactic(auto, using(crate::proofs::Single::fits_of_list))]
 pub fn values_fit_within(values: &Values, levels: u8) -> bool
-    ensures { result ≡ fits_within (value.List values.now) levels }
+    ensures exact { result ≡ fits_within (value.List values.now) levels }
 {
     fit::list_fits(values, levels)
 }
@@ -73,8 +73,8 @@ pub fn list_head_len(len: usize) -> u64
 /// The length in bytes of the shortest spelling of a text, as `short_len` tells that of a value.
 #[tactic(auto, using(crate::proofs::Loops::text_fits, crate::proofs::Single::short_text_len))]
 pub fn text_len(text: &Text) -> u64
-    requires { IsTrue (fits (value.Text text.now)) }
-    ensures { result ≡ min (length (short (value.Text text.now))) (2 ^ 64 - 1) }
+    requires fits { IsTrue (fits (value.Text text.now)) }
+    ensures length { result ≡ min (length (short (value.Text text.now))) (2 ^ 64 - 1) }
 {
     size::text_len(text)
 }
@@ -82,8 +82,8 @@ pub fn text_len(text: &Text) -> u64
 /// The length in bytes of the shortest spelling of a list, as `short_len` tells that of a value.
 #[tactic(auto, using(crate::proofs::Loops::list_fits, crate::proofs::Loops::short_list))]
 pub fn values_len(values: &Values) -> u64
-    requires { IsTrue (fits (value.List values.now)) }
-    ensures { result ≡ min (length (short (value.List values.now))) (2 ^ 64 - 1) }
+    requires fits { IsTrue (fits (value.List values.now)) }
+    ensures length { result ≡ min (length (short (value.List values.now))) (2 ^ 64 - 1) }
 {
     size::values_len(values)
 }
@@ -91,8 +91,8 @@ pub fn values_len(values: &Values) -> u64
 /// The length in bytes of the shortest spelling of a dictionary, as `short_len` tells that of a value.
 #[tactic(auto, using(crate::proofs::Loops::dict_fits, crate::proofs::Loops::short_dict))]
 pub fn dict_len(pairs: &Dict) -> u64
-    requires { IsTrue (fits (value.Dict pairs.now)) }
-    ensures { result ≡ min (length (short (value.Dict pairs.now))) (2 ^ 64 - 1) }
+    requires fits { IsTrue (fits (value.Dict pairs.now)) }
+    ensures length { result ≡ min (length (short (value.Dict pairs.now))) (2 ^ 64 - 1) }
 {
     size::dict_len(pairs)
 }

@@ -23,7 +23,7 @@ impl Model for Bytes {
 impl Bytes {
     /// No bytes. It takes no memory.
     pub fn new(alloc: Global) -> Bytes
-        ensures { result ≡ [] }
+        ensures empty { result ≡ [] }
     {
         Bytes {
             inner: Vec::new(alloc),
@@ -64,7 +64,7 @@ impl Bytes {
 
     /// The bytes as a slice.
     pub fn as_slice(&self) -> &[u8]
-        ensures { result.now ≡ self.now }
+        ensures same { result.now ≡ self.now }
     {
         self.inner.as_slice()
     }
@@ -76,14 +76,14 @@ impl Bytes {
 
     /// How many bytes there are.
     pub fn len(&self) -> usize
-        ensures { result ≡ length self.now }
+        ensures length { result ≡ length self.now }
     {
         self.inner.len()
     }
 
     /// Says whether there are none.
     pub fn is_empty(&self) -> bool
-        ensures { IsTrue result ↔ (self.now ≡ []) }
+        ensures exact { IsTrue result ↔ (self.now ≡ []) }
     {
         self.inner.is_empty()
     }
@@ -107,7 +107,7 @@ impl Bytes {
 
     /// Keeps the first bytes alone, so many of them, or all where there are no more. It takes no memory.
     pub fn truncate(&mut self, len: usize)
-        ensures { self.new ≡ take len self.old }
+        ensures kept { self.new ≡ take len self.old }
     {
         self.inner.truncate(len);
     }

@@ -23,7 +23,7 @@ use std::alloc::AllocError;
 /// the bytes as they were.
 #[tactic(auto, using(crate::proofs::Loops::whole_value, crate::proofs::Room::spelled))]
 pub fn encode_within(value: &Value, into: &mut Vec<u8>) -> Result<(), AllocError>
-    requires { IsTrue (fits value.now) }
+    requires fits { IsTrue (fits value.now) }
     ensures ok { OnOk result (into.new.items ≡ into.old.items ++ short value.now) }
     ensures spelled { OnOk result (Spelled value.now into.old.items into.new.items) }
     ensures err { OnErr result (into.new.items ≡ into.old.items) }
@@ -38,7 +38,7 @@ pub fn encode_within(value: &Value, into: &mut Vec<u8>) -> Result<(), AllocError
 /// Appends the one shortest spelling of a value. The value has to fit, which `Value::fits` says. An `Err` leaves the bytes
 /// as they were.
 pub fn encode(value: &Value, into: &mut Bytes) -> Result<(), AllocError>
-    requires { IsTrue (fits value.now) }
+    requires fits { IsTrue (fits value.now) }
     ensures ok { OnOk result (into.new ≡ into.old ++ short value.now) }
     ensures spelled { OnOk result (Spelled value.now into.old into.new) }
     ensures err { OnErr result (into.new ≡ into.old) }
@@ -49,7 +49,7 @@ pub fn encode(value: &Value, into: &mut Bytes) -> Result<(), AllocError>
 /// Appends the shortest spelling of a text to bytes with room, as `encode_within` does that of a value.
 #[tactic(auto, using(crate::proofs::Loops::text_fits, crate::proofs::Loops::short_text, crate::proofs::Room::spelled))]
 pub fn encode_text_within(text: &Text, into: &mut Vec<u8>) -> Result<(), AllocError>
-    requires { IsTrue (fits (value.Text text.now)) }
+    requires fits { IsTrue (fits (value.Text text.now)) }
     ensures ok { OnOk result (into.new.items ≡ into.old.items ++ short (value.Text text.now)) }
     ensures spelled { OnOk result (Spelled (value.Text text.now) into.old.items into.new.items) }
     ensures err { OnErr result (into.new.items ≡ into.old.items) }
@@ -63,7 +63,7 @@ pub fn encode_text_within(text: &Text, into: &mut Vec<u8>) -> Result<(), AllocEr
 
 /// Appends the shortest spelling of a text, as `encode` does that of a value.
 pub fn encode_text(text: &Text, into: &mut Bytes) -> Result<(), AllocError>
-    requires { IsTrue (fits (value.Text text.now)) }
+    requires fits { IsTrue (fits (value.Text text.now)) }
     ensures ok { OnOk result (into.new ≡ into.old ++ short (value.Text text.now)) }
     ensures spelled { OnOk result (Spelled (value.Text text.now) into.old into.new) }
     ensures err { OnErr result (into.new ≡ into.old) }
@@ -74,7 +74,7 @@ pub fn encode_text(text: &Text, into: &mut Bytes) -> Result<(), AllocError>
 /// Appends the shortest spelling of a list to bytes with room, as `encode_within` does that of a value.
 #[tactic(auto, using(crate::proofs::Loops::list_fits, crate::proofs::Loops::short_list, crate::proofs::Room::spelled))]
 pub fn encode_values_within(values: &Values, into: &mut Vec<u8>) -> Result<(), AllocError>
-    requires { IsTrue (fits (value.List values.now)) }
+    requires fits { IsTrue (fits (value.List values.now)) }
     ensures ok { OnOk result (into.new.items ≡ into.old.items ++ short (value.List values.now)) }
     ensures spelled { OnOk result (Spelled (value.List values.now) into.old.items into.new.items) }
     ensures err { OnErr result (into.new.items ≡ into.old.items) }
@@ -88,7 +88,7 @@ pub fn encode_values_within(values: &Values, into: &mut Vec<u8>) -> Result<(), A
 
 /// Appends the shortest spelling of a list, as `encode` does that of a value.
 pub fn encode_values(values: &Values, into: &mut Bytes) -> Result<(), AllocError>
-    requires { IsTrue (fits (value.List values.now)) }
+    requires fits { IsTrue (fits (value.List values.now)) }
     ensures ok { OnOk result (into.new ≡ into.old ++ short (value.List values.now)) }
     ensures spelled { OnOk result (Spelled (value.List values.now) into.old into.new) }
     ensures err { OnErr result (into.new ≡ into.old) }
@@ -99,7 +99,7 @@ pub fn encode_values(values: &Values, into: &mut Bytes) -> Result<(), AllocError
 /// Appends the shortest spelling of a dictionary to bytes with room, as `encode_within` does that of a value.
 #[tactic(auto, using(crate::proofs::Loops::dict_fits, crate::proofs::Loops::short_dict, crate::proofs::Room::spelled))]
 pub fn encode_dict_within(pairs: &Dict, into: &mut Vec<u8>) -> Result<(), AllocError>
-    requires { IsTrue (fits (value.Dict pairs.now)) }
+    requires fits { IsTrue (fits (value.Dict pairs.now)) }
     ensures ok { OnOk result (into.new.items ≡ into.old.items ++ short (value.Dict pairs.now)) }
     ensures spelled { OnOk result (Spelled (value.Dict pairs.now) into.old.items into.new.items) }
     ensures err { OnErr result (into.new.items ≡ into.old.items) }
@@ -113,7 +113,7 @@ pub fn encode_dict_within(pairs: &Dict, into: &mut Vec<u8>) -> Result<(), AllocE
 
 /// Appends the shortest spelling of a dictionary, as `encode` does that of a value.
 pub fn encode_dict(pairs: &Dict, into: &mut Bytes) -> Result<(), AllocError>
-    requires { IsTrue (fits (value.Dict pairs.now)) }
+    requires fits { IsTrue (fits (value.Dict pairs.now)) }
     ensures ok { OnOk result (into.new ≡ into.old ++ short (value.Dict pairs.now)) }
     ensures spelled { OnOk result (Spelled (value.Dict pairs.now) into.old into.new) }
     ensures err { OnErr result (into.new ≡ into.old) }
@@ -133,7 +133,7 @@ fn told_head_len(len: usize) -> u64
 /// `encode_within` does.
 #[tactic(auto, using(crate::proofs::Room::head_spelled))]
 pub fn encode_list_head_within(len: usize, into: &mut Vec<u8>) -> Result<(), AllocError>
-    requires { len ≤ max_size }
+    requires small { len ≤ max_size }
     ensures ok { OnOk result (into.new.items ≡ into.old.items ++ head lists len) }
     ensures spelled { OnOk result (HeadSpelled len into.old.items into.new.items) }
     ensures err { OnErr result (into.new.items ≡ into.old.items) }
@@ -148,7 +148,7 @@ pub fn encode_list_head_within(len: usize, into: &mut Vec<u8>) -> Result<(), All
 /// Appends what stands before the items of a list of so many: its marker and its size. An `Err` leaves the bytes as they
 /// were.
 pub fn encode_list_head(len: usize, into: &mut Bytes) -> Result<(), AllocError>
-    requires { len ≤ max_size }
+    requires small { len ≤ max_size }
     ensures ok { OnOk result (into.new ≡ into.old ++ head lists len) }
     ensures spelled { OnOk result (HeadSpelled len into.old into.new) }
     ensures err { OnErr result (into.new ≡ into.old) }

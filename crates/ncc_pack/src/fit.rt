@@ -1,6 +1,6 @@
 //! Which values have a spelling.
 
-ghost use Rattle.std.specs.Prelude.{◌≡◌, ◌&&◌, [], map, length, nat_le, IfOk};
+ghost use Rattle.std.specs.Prelude.{◌≡◌, ◌&&◌, [], map, IfOk};
 ghost use Rattle.std.specs.List.{list_all, list_any};
 ghost use Rattle.std.specs.Str.{bytes_eq};
 ghost use Rattle.ncc_pack.specs.Keys.{distinct, keys};
@@ -80,34 +80,6 @@ fn keys_differ(pairs: &Dict) -> bool
     }
 }
 
-/// Says whether a value is a text.
-fn is_text(value: &Value) -> bool
-    ensures { result ≡ (fit value.now).is_text }
-{
-    match value {
-        Value::Text(_) => true,
-        Value::Null => false,
-        Value::Bool(_) => false,
-        Value::Int(_) => false,
-        Value::Bytes(_) => false,
-        Value::List(_) => false,
-        Value::Dict(_) => false,
-        Value::Node(_) => false,
-    }
-}
-
-/// Says whether all values are texts.
-fn all_texts(values: &Values) -> bool
-    ensures { result ≡ list_all (λ x. (fit x).is_text) values.now }
-{
-    for value in values.as_slice() {
-        if !is_text(value) {
-            return false;
-        }
-    }
-    true
-}
-
 #[cycle(fitting)]
 pub(crate) fn list_fits(values: &Values, depth: u8) -> bool
     ensures { result ≡ fits_list (map fit values.now) depth }
@@ -158,7 +130,7 @@ fn node_fits(node: &NodeValue, depth: u8) -> bool
     if depth == 0 || !int_fits(node.id) {
         return false;
     }
-    if !list_fits(&node.labels, depth - 1) || !all_texts(&node.labels) {
+    if !list_fits(&node.labels, depth - 1) || !node.labels.texts_alone() {
         return false;
     }
     dict_fits(&node.props, depth - 1)
@@ -182,7 +154,8 @@ fn value_fits(value: &Value, depth: u8) -> bool
 impl Value {
     /// Says whether the value has a spelling: each text, bytes, list and dictionary has a size of at most 16,777,216,
     /// lists, dictionaries and nodes nest at most 32 deep (a node takes two levels, for its labels), no dictionary has a
-    /// key twice, and labels are texts.
+    /// key twice, and labels are texts. Where a dictionary has many keys it asks for memory, and where it gets none it goes on
+    /// without: the answer is the same.
     pub fn fits(&self) -> bool
         ensures exact { result ≡ fits self.now }
     {

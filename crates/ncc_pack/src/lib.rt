@@ -3,6 +3,7 @@
 
 mod alone;
 mod bytes;
+mod cursor;
 mod element;
 mod encoding;
 mod error;
@@ -31,6 +32,8 @@ pub use encoding::{
 };
 pub use error::PackError;
 pub use law::{placed_refusals, short_refusals, shortest};
+pub use limits::{MAX_DEPTH, MAX_SIZE};
+pub use mark::NULL;
 pub use read::{decode, decode_at, one_form};
 pub use roomy::Roomy;
 pub use sequence::Sequence;

@@ -4,7 +4,7 @@ ghost use Rattle.std.specs.Prelude.{◌≡◌};
 ghost use Rattle.ncc_pack.specs.Marker.{marker};
 
 /// The marker of null.
-pub(crate) const NULL: u8 = 0xC0;
+pub const NULL: u8 = 0xC0;
 /// The marker of a float.
 const FLOAT: u8 = 0xC1;
 /// The marker of a false truth value.

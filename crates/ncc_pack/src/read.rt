@@ -8,12 +8,9 @@ ghost use Rattle.ncc_pack.specs.Limits.{max_depth};
 ghost use Rattle.ncc_pack.specs.Short.{short};
 ghost use Rattle.ncc_pack.specs.Fits.{fits};
 
-use crate::bytes::Bytes;
+use crate::cursor::Cursor;
 use crate::error::PackError;
-use crate::field::{
-    behind_tag, bytes_of, id_of, key_of, label_of, other_kind, size_of, text_of, u8_at, u16_at,
-    u32_at, u64_at,
-};
+use crate::field::other_kind;
 use crate::fit::{FEW, has_key};
 use crate::limits::MAX_DEPTH;
 use crate::mark::{Mark, Size, mark_of};
@@ -25,178 +22,133 @@ use std::collections::BTreeSet;
 
 /// The labels of a node: a list of texts alone.
 #[tactic(auto, unfolding(crate::specs::Reading::labels_at))]
-fn labels_of(alloc: Global, total: usize, bytes: &[u8]) -> Result<(Values, &[u8]), PackError>
-    ensures { Gives (λ x. (x.0, x.1.now)) result (labels_at total bytes.now) }
+fn labels_of(cursor: &mut Cursor) -> Result<Values, PackError>
+    ensures read { Gives (λ x. (x, cursor.new.rest.now)) result (labels_at cursor.old.total cursor.old.rest.now) }
+    ensures total { cursor.new.total ≡ cursor.old.total }
 {
-    let at = total.saturating_sub(bytes.len()) as u64;
-    let (byte, rest) = u8_at(bytes)?;
-    match mark_of(byte) {
+    let at = cursor.place();
+    match mark_of(cursor.take_u8()?) {
         Mark::List(size) => {
-            let (count, rest) = size_of(at, size, rest)?;
-            label_items(alloc, total, count, rest)
+            let count = cursor.take_size(at, size)?;
+            label_items(cursor, count)
         }
         mark => Err(other_kind(at, mark)),
     }
 }
 
-fn label_items(
-    alloc: Global,
-    total: usize,
-    count: usize,
-    bytes: &[u8],
-) -> Result<(Values, &[u8]), PackError>
-    ensures { Gives (λ x. (x.0, x.1.now)) result (items_at (label_at total) count bytes.now) }
+fn label_items(cursor: &mut Cursor, count: usize) -> Result<Values, PackError>
+    ensures read { Gives (λ x. (x, cursor.new.rest.now)) result (items_at (label_at cursor.old.total) count cursor.old.rest.now) }
+    ensures total { cursor.new.total ≡ cursor.old.total }
 {
-    let mut labels = Roomy::ahead(alloc, count)?;
-    let mut rest = bytes;
+    let mut labels = Roomy::ahead(cursor.alloc, count)?;
     for _ in 0..count {
-        let (label, after) = label_of(alloc, total, rest)?;
+        let label = cursor.take_label()?;
         labels.push(label)?;
-        rest = after;
     }
-    Ok((labels.into_sequence(), rest))
+    Ok(labels.into_sequence())
 }
 
 #[cycle(reading)]
-fn items_of(
-    alloc: Global,
-    total: usize,
-    depth: u8,
-    count: usize,
-    bytes: &[u8],
-) -> Result<(Values, &[u8]), PackError>
-    ensures { Gives (λ x. (x.0, x.1.now)) result (items_at (value_at total depth) count bytes.now) }
+fn items_of(cursor: &mut Cursor, levels: u8, count: usize) -> Result<Values, PackError>
+    ensures read { Gives (λ x. (x, cursor.new.rest.now)) result (items_at (value_at cursor.old.total levels) count cursor.old.rest.now) }
+    ensures total { cursor.new.total ≡ cursor.old.total }
 {
-    let mut items = Roomy::ahead(alloc, count)?;
-    let mut rest = bytes;
+    let mut items = Roomy::ahead(cursor.alloc, count)?;
     for _ in 0..count {
-        let (item, after) = value_of(alloc, total, depth, rest)?;
+        let item = value_of(cursor, levels)?;
         items.push(item)?;
-        rest = after;
     }
-    Ok((items.into_sequence(), rest))
+    Ok(items.into_sequence())
 }
 
 #[cycle(reading)]
-fn pairs_of(
-    alloc: Global,
-    total: usize,
-    depth: u8,
-    count: usize,
-    bytes: &[u8],
-) -> Result<(Dict, &[u8]), PackError>
-    ensures { Gives (λ x. (x.0, x.1.now)) result (pairs_at total (value_at total depth) [] count bytes.now) }
+fn pairs_of(cursor: &mut Cursor, levels: u8, count: usize) -> Result<Dict, PackError>
+    ensures read { Gives (λ x. (x, cursor.new.rest.now)) result
+        (pairs_at cursor.old.total (value_at cursor.old.total levels) [] count cursor.old.rest.now) }
+    ensures total { cursor.new.total ≡ cursor.old.total }
 {
     if count <= FEW {
-        return few_pairs_of(alloc, total, depth, count, bytes);
+        return few_pairs_of(cursor, levels, count);
     }
-    many_pairs_of(alloc, total, depth, count, bytes)
+    many_pairs_of(cursor, levels, count)
 }
 
 // A key that came before is found by a search through the earlier ones.
 #[cycle(reading)]
-fn few_pairs_of(
-    alloc: Global,
-    total: usize,
-    depth: u8,
-    count: usize,
-    bytes: &[u8],
-) -> Result<(Dict, &[u8]), PackError>
-    ensures { Gives (λ x. (x.0, x.1.now)) result (pairs_at total (value_at total depth) [] count bytes.now) }
+fn few_pairs_of(cursor: &mut Cursor, levels: u8, count: usize) -> Result<Dict, PackError>
+    ensures read { Gives (λ x. (x, cursor.new.rest.now)) result
+        (pairs_at cursor.old.total (value_at cursor.old.total levels) [] count cursor.old.rest.now) }
+    ensures total { cursor.new.total ≡ cursor.old.total }
 {
-    let mut pairs = Roomy::ahead(alloc, count)?;
-    let mut rest = bytes;
+    let mut pairs = Roomy::ahead(cursor.alloc, count)?;
     for _ in 0..count {
-        let at = total.saturating_sub(rest.len()) as u64;
-        let (key, after) = key_of(total, rest)?;
+        let at = cursor.place();
+        let key = cursor.take_key()?;
         if has_key(pairs.as_slice(), key) {
             return Err(PackError::RepeatedKey { at });
         }
-        let (value, after) = value_of(alloc, total, depth, after)?;
-        pairs.push((Text::from_str(alloc, key)?, value))?;
-        rest = after;
+        let value = value_of(cursor, levels)?;
+        pairs.push((Text::from_str(cursor.alloc, key)?, value))?;
     }
-    Ok((pairs.into_sequence(), rest))
+    Ok(pairs.into_sequence())
 }
 
 // A key that came before is found in a set of the earlier ones.
 #[cycle(reading)]
-fn many_pairs_of(
-    alloc: Global,
-    total: usize,
-    depth: u8,
-    count: usize,
-    bytes: &[u8],
-) -> Result<(Dict, &[u8]), PackError>
-    ensures { Gives (λ x. (x.0, x.1.now)) result (pairs_at total (value_at total depth) [] count bytes.now) }
+fn many_pairs_of(cursor: &mut Cursor, levels: u8, count: usize) -> Result<Dict, PackError>
+    ensures read { Gives (λ x. (x, cursor.new.rest.now)) result
+        (pairs_at cursor.old.total (value_at cursor.old.total levels) [] count cursor.old.rest.now) }
+    ensures total { cursor.new.total ≡ cursor.old.total }
 {
-    let mut seen: BTreeSet<&str> = BTreeSet::new(alloc);
-    let mut pairs = Roomy::ahead(alloc, count)?;
-    let mut rest = bytes;
+    let mut seen: BTreeSet<&str> = BTreeSet::new(cursor.alloc);
+    let mut pairs = Roomy::ahead(cursor.alloc, count)?;
     for _ in 0..count {
-        let at = total.saturating_sub(rest.len()) as u64;
-        let (key, after) = key_of(total, rest)?;
+        let at = cursor.place();
+        let key = cursor.take_key()?;
         if !seen.insert(key)? {
             return Err(PackError::RepeatedKey { at });
         }
-        let (value, after) = value_of(alloc, total, depth, after)?;
-        pairs.push((Text::from_str(alloc, key)?, value))?;
-        rest = after;
+        let value = value_of(cursor, levels)?;
+        pairs.push((Text::from_str(cursor.alloc, key)?, value))?;
     }
-    Ok((pairs.into_sequence(), rest))
+    Ok(pairs.into_sequence())
 }
 
 #[cycle(reading)]
-fn list_of(
-    alloc: Global,
-    total: usize,
-    depth: u8,
-    at: u64,
-    size: Size,
-    bytes: &[u8],
-) -> Result<(Values, &[u8]), PackError>
-    ensures { Gives (λ x. (x.0, x.1.now)) result ((within total depth).list at size bytes.now) }
+fn list_of(cursor: &mut Cursor, levels: u8, at: u64, size: Size) -> Result<Values, PackError>
+    ensures read { Gives (λ x. (x, cursor.new.rest.now)) result ((within cursor.old.total levels).list at size cursor.old.rest.now) }
+    ensures total { cursor.new.total ≡ cursor.old.total }
 {
-    if depth == 0 {
+    if levels == 0 {
         return Err(PackError::TooDeep { at });
     }
-    let (count, rest) = size_of(at, size, bytes)?;
-    items_of(alloc, total, depth - 1, count, rest)
+    let count = cursor.take_size(at, size)?;
+    items_of(cursor, levels - 1, count)
 }
 
 #[cycle(reading)]
-fn dict_of(
-    alloc: Global,
-    total: usize,
-    depth: u8,
-    at: u64,
-    size: Size,
-    bytes: &[u8],
-) -> Result<(Dict, &[u8]), PackError>
-    ensures { Gives (λ x. (x.0, x.1.now)) result ((within total depth).dict at size bytes.now) }
+fn dict_of(cursor: &mut Cursor, levels: u8, at: u64, size: Size) -> Result<Dict, PackError>
+    ensures read { Gives (λ x. (x, cursor.new.rest.now)) result ((within cursor.old.total levels).dict at size cursor.old.rest.now) }
+    ensures total { cursor.new.total ≡ cursor.old.total }
 {
-    if depth == 0 {
+    if levels == 0 {
         return Err(PackError::TooDeep { at });
     }
-    let (count, rest) = size_of(at, size, bytes)?;
-    pairs_of(alloc, total, depth - 1, count, rest)
+    let count = cursor.take_size(at, size)?;
+    pairs_of(cursor, levels - 1, count)
 }
 
 /// The properties of a node.
 #[cycle(reading)]
 #[tactic(auto, unfolding(crate::specs::Reading::props_at))]
-fn props_of(
-    alloc: Global,
-    total: usize,
-    depth: u8,
-    bytes: &[u8],
-) -> Result<(Dict, &[u8]), PackError>
-    ensures { Gives (λ x. (x.0, x.1.now)) result (props_at total (within total depth) bytes.now) }
+fn props_of(cursor: &mut Cursor, levels: u8) -> Result<Dict, PackError>
+    ensures read { Gives (λ x. (x, cursor.new.rest.now)) result
+        (props_at cursor.old.total (within cursor.old.total levels) cursor.old.rest.now) }
+    ensures total { cursor.new.total ≡ cursor.old.total }
 {
-    let at = total.saturating_sub(bytes.len()) as u64;
-    let (byte, rest) = u8_at(bytes)?;
-    match mark_of(byte) {
-        Mark::Dict(size) => dict_of(alloc, total, depth, at, size, rest),
+    let at = cursor.place();
+    match mark_of(cursor.take_u8()?) {
+        Mark::Dict(size) => dict_of(cursor, levels, at, size),
         mark => Err(other_kind(at, mark)),
     }
 }
@@ -204,92 +156,57 @@ fn props_of(
 /// The tag and the three fields of a node.
 #[cycle(reading)]
 #[tactic(auto, unfolding(crate::specs::Reading::fields_at))]
-fn fields_of(
-    alloc: Global,
-    total: usize,
-    depth: u8,
-    bytes: &[u8],
-) -> Result<(NodeValue, &[u8]), PackError>
-    ensures { Gives (λ x. (x.0, x.1.now)) result (fields_at total (within total depth) bytes.now) }
+fn fields_of(cursor: &mut Cursor, levels: u8) -> Result<NodeValue, PackError>
+    ensures read { Gives (λ x. (x, cursor.new.rest.now)) result
+        (fields_at cursor.old.total (within cursor.old.total levels) cursor.old.rest.now) }
+    ensures total { cursor.new.total ≡ cursor.old.total }
 {
-    let rest = behind_tag(total, bytes)?;
-    let (id, rest) = id_of(total, rest)?;
-    let (labels, rest) = labels_of(alloc, total, rest)?;
-    let (props, rest) = props_of(alloc, total, depth, rest)?;
-    Ok((NodeValue { id, labels, props }, rest))
+    cursor.take_tag()?;
+    let id = cursor.take_id()?;
+    let labels = labels_of(cursor)?;
+    let props = props_of(cursor, levels)?;
+    Ok(NodeValue { id, labels, props })
 }
 
 #[cycle(reading)]
-fn node_of(
-    alloc: Global,
-    total: usize,
-    depth: u8,
-    at: u64,
-    bytes: &[u8],
-) -> Result<(NodeValue, &[u8]), PackError>
-    ensures { Gives (λ x. (x.0, x.1.now)) result ((within total depth).node at bytes.now) }
+fn node_of(cursor: &mut Cursor, levels: u8, at: u64) -> Result<NodeValue, PackError>
+    ensures read { Gives (λ x. (x, cursor.new.rest.now)) result ((within cursor.old.total levels).node at cursor.old.rest.now) }
+    ensures total { cursor.new.total ≡ cursor.old.total }
 {
     // its labels are a list inside it
-    if depth < 2 {
+    if levels < 2 {
         return Err(PackError::TooDeep { at });
     }
-    fields_of(alloc, total, depth - 1, bytes)
+    fields_of(cursor, levels - 1)
 }
 
+/// The value that the bytes begin with, with so many levels left.
 #[cycle(reading)]
 #[tactic(auto, unfolding(crate::specs::Reading::value_with))]
-fn value_of(
-    alloc: Global,
-    total: usize,
-    depth: u8,
-    bytes: &[u8],
-) -> Result<(Value, &[u8]), PackError>
-    ensures { Gives (λ x. (x.0, x.1.now)) result (value_at total depth bytes.now) }
+fn value_of(cursor: &mut Cursor, levels: u8) -> Result<Value, PackError>
+    ensures read { Gives (λ x. (x, cursor.new.rest.now)) result (value_at cursor.old.total levels cursor.old.rest.now) }
+    ensures total { cursor.new.total ≡ cursor.old.total }
 {
-    let at = total.saturating_sub(bytes.len()) as u64;
-    let (byte, rest) = u8_at(bytes)?;
-    match mark_of(byte) {
-        Mark::Null => Ok((Value::Null, rest)),
-        Mark::Bool(truth) => Ok((Value::Bool(truth), rest)),
-        Mark::Small(number) => Ok((Value::Int(number), rest)),
-        Mark::Int1 => {
-            let (number, rest) = u8_at(rest)?;
-            Ok((Value::Int(i64::from(number.cast_signed())), rest))
-        }
-        Mark::Int2 => {
-            let (number, rest) = u16_at(rest)?;
-            Ok((Value::Int(i64::from(number.cast_signed())), rest))
-        }
-        Mark::Int4 => {
-            let (number, rest) = u32_at(rest)?;
-            Ok((Value::Int(i64::from(number.cast_signed())), rest))
-        }
-        Mark::Int8 => {
-            let (number, rest) = u64_at(rest)?;
-            Ok((Value::Int(number.cast_signed()), rest))
-        }
+    let at = cursor.place();
+    match mark_of(cursor.take_u8()?) {
+        Mark::Null => Ok(Value::Null),
+        Mark::Bool(truth) => Ok(Value::Bool(truth)),
+        Mark::Small(number) => Ok(Value::Int(number)),
+        Mark::Int1 => Ok(Value::Int(i64::from(cursor.take_u8()?.cast_signed()))),
+        Mark::Int2 => Ok(Value::Int(i64::from(cursor.take_u16()?.cast_signed()))),
+        Mark::Int4 => Ok(Value::Int(i64::from(cursor.take_u32()?.cast_signed()))),
+        Mark::Int8 => Ok(Value::Int(cursor.take_u64()?.cast_signed())),
         Mark::Bytes(size) => {
-            let (len, rest) = size_of(at, size, rest)?;
-            let (held, rest) = bytes_of(alloc, len, rest)?;
-            Ok((Value::Bytes(held), rest))
+            let len = cursor.take_size(at, size)?;
+            Ok(Value::Bytes(cursor.take_bytes(len)?))
         }
         Mark::Text(size) => {
-            let (len, rest) = size_of(at, size, rest)?;
-            let (text, rest) = text_of(alloc, total, len, rest)?;
-            Ok((Value::Text(text), rest))
+            let len = cursor.take_size(at, size)?;
+            Ok(Value::Text(cursor.take_text(len)?))
         }
-        Mark::List(size) => {
-            let (items, rest) = list_of(alloc, total, depth, at, size, rest)?;
-            Ok((Value::List(items), rest))
-        }
-        Mark::Dict(size) => {
-            let (pairs, rest) = dict_of(alloc, total, depth, at, size, rest)?;
-            Ok((Value::Dict(pairs), rest))
-        }
-        Mark::Node => {
-            let (node, rest) = node_of(alloc, total, depth, at, rest)?;
-            Ok((Value::Node(node), rest))
-        }
+        Mark::List(size) => Ok(Value::List(list_of(cursor, levels, at, size)?)),
+        Mark::Dict(size) => Ok(Value::Dict(dict_of(cursor, levels, at, size)?)),
+        Mark::Node => Ok(Value::Node(node_of(cursor, levels, at)?)),
         Mark::Float => Err(PackError::Float { at }),
         Mark::Bad => Err(PackError::BadMarker { at }),
     }
@@ -312,14 +229,19 @@ pub fn decode(alloc: Global, bytes: &[u8]) -> Result<(Value, usize), PackError>
     // A refusal is the first fault that stands in the bytes.
     ensures exact { Gives (λ r. (r.0, drop r.1 bytes.now)) result (read_value bytes.now) }
 {
-    let (value, rest) = value_of(alloc, bytes.len(), MAX_DEPTH, bytes)?;
-    Ok((value, bytes.len() - rest.len()))
+    let mut cursor = Cursor {
+        alloc,
+        total: bytes.len(),
+        rest: bytes,
+    };
+    let value = value_of(&mut cursor, MAX_DEPTH)?;
+    Ok((value, bytes.len() - cursor.rest.len()))
 }
 
 /// The value that the bytes from a place on begin with, and the length of its spelling. It is as `decode`, and the place of
 /// a refusal counts in the whole bytes.
 pub fn decode_at(alloc: Global, bytes: &[u8], at: usize) -> Result<(Value, usize), PackError>
-    requires { at ≤ length bytes.now }
+    requires inside { at ≤ length bytes.now }
     // What is read is spelled so.
     ensures found { IfOk result (λ r. (at + r.1 ≤ length bytes.now) × spells r.0 (take r.1 (drop at bytes.now))) }
     // What is spelled so is read, whatever follows, unless memory runs out.
@@ -329,8 +251,13 @@ pub fn decode_at(alloc: Global, bytes: &[u8], at: usize) -> Result<(Value, usize
     ensures exact { Gives (λ r. (r.0, drop (at + r.1) bytes.now)) result (value_at (length bytes.now) max_depth (drop at bytes.now)) }
 {
     let (_, front) = bytes.split_at(at);
-    let (value, rest) = value_of(alloc, bytes.len(), MAX_DEPTH, front)?;
-    Ok((value, front.len() - rest.len()))
+    let mut cursor = Cursor {
+        alloc,
+        total: bytes.len(),
+        rest: front,
+    };
+    let value = value_of(&mut cursor, MAX_DEPTH)?;
+    Ok((value, front.len() - cursor.rest.len()))
 }
 
 /// No spelling begins another.

@@ -105,7 +105,7 @@ impl<T> Roomy<T> {
 
     /// Appends an item, for which there has to be room. It takes no memory.
     pub fn put(&mut self, item: T)
-        requires { 0 < self.old.room }
+        requires room { 0 < self.old.room }
         ensures items { self.new.items ≡ self.old.items ++ item ∷ [] }
         ensures room { self.new.room + 1 ≡ self.old.room }
     {

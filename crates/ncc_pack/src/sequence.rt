@@ -26,7 +26,7 @@ impl<T> Model for Sequence<T> {
 impl<T> Sequence<T> {
     /// No elements. It takes no memory.
     pub fn new(alloc: Global) -> Sequence<T>
-        ensures { result ≡ [] }
+        ensures empty { result ≡ [] }
     {
         Sequence {
             inner: Vec::new(alloc),
@@ -58,7 +58,7 @@ impl<T> Sequence<T> {
 
     /// The elements as a slice.
     pub fn as_slice(&self) -> &[T]
-        ensures { result.now ≡ self.now }
+        ensures same { result.now ≡ self.now }
     {
         self.inner.as_slice()
     }
@@ -70,14 +70,14 @@ impl<T> Sequence<T> {
 
     /// How many elements there are.
     pub fn len(&self) -> usize
-        ensures { result ≡ length self.now }
+        ensures length { result ≡ length self.now }
     {
         self.inner.len()
     }
 
     /// Says whether there are none.
     pub fn is_empty(&self) -> bool
-        ensures { IsTrue result ↔ (self.now ≡ []) }
+        ensures exact { IsTrue result ↔ (self.now ≡ []) }
     {
         self.inner.is_empty()
     }

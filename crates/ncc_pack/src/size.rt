@@ -127,7 +127,7 @@ fn value_len(value: &Value) -> u64
 /// would pass the greatest `u64` stays there. It takes no memory.
 #[tactic(auto, using(crate::proofs::Loops::whole_value))]
 pub fn short_len(value: &Value) -> u64
-    requires { IsTrue (fits value.now) }
+    requires fits { IsTrue (fits value.now) }
     ensures length { result ≡ min (length (short value.now)) (2 ^ 64 - 1) }
 {
     value_len(value)

@@ -28,7 +28,7 @@ impl Model for Text {
 impl Text {
     /// The empty text. It takes no memory.
     pub fn new(alloc: Global) -> Text
-        ensures { result ≡ [] }
+        ensures empty { result ≡ [] }
     {
         Text {
             inner: String::new(alloc),
@@ -45,21 +45,21 @@ impl Text {
 
     /// The text as a `str`.
     pub fn as_str(&self) -> &str
-        ensures { result.now ≡ self.now }
+        ensures same { result.now ≡ self.now }
     {
         self.inner.as_str()
     }
 
     /// Its length in bytes.
     pub fn len(&self) -> usize
-        ensures { result ≡ length self.now }
+        ensures length { result ≡ length self.now }
     {
         self.inner.len()
     }
 
     /// Says whether it has no byte.
     pub fn is_empty(&self) -> bool
-        ensures { IsTrue result ↔ (self.now ≡ []) }
+        ensures exact { IsTrue result ↔ (self.now ≡ []) }
     {
         self.inner.is_empty()
     }

@@ -4,6 +4,7 @@ ghost use Rattle.std.specs.Prelude.{◌≡◌, ◌↔◌, IfOk, IsTrue};
 ghost use Rattle.std.specs.Map.{lookup};
 ghost use Rattle.std.specs.Option.{option_copied};
 ghost use Rattle.std.specs.Str.{bytes_eq};
+ghost use Rattle.ncc_pack.specs.Texts.{is_text, texts_alone};
 
 use crate::bytes::Bytes;
 use crate::element::{Compared, Copied};
@@ -66,6 +67,20 @@ impl Sequence<(Text, Value)> {
             }
         }
         None
+    }
+}
+
+impl Sequence<Value> {
+    /// Says whether every value is a text, as the labels of a node and the addresses of members are. It takes no memory.
+    pub fn texts_alone(&self) -> bool
+        ensures exact { result ≡ texts_alone self.now }
+    {
+        for value in self.as_slice() {
+            if !value.is_text() {
+                return false;
+            }
+        }
+        true
     }
 }
 
@@ -132,6 +147,22 @@ impl Value {
             Value::List(values) => Ok(Value::List(copied_values(values)?)),
             Value::Dict(dict) => Ok(Value::Dict(copied_dict(dict)?)),
             Value::Node(node) => Ok(Value::Node(node.copy()?)),
+        }
+    }
+
+    /// Says whether the value is a text. It takes no memory.
+    pub fn is_text(&self) -> bool
+        ensures exact { result ≡ is_text self.now }
+    {
+        match self {
+            Value::Text(_) => true,
+            Value::Null => false,
+            Value::Bool(_) => false,
+            Value::Int(_) => false,
+            Value::Bytes(_) => false,
+            Value::List(_) => false,
+            Value::Dict(_) => false,
+            Value::Node(_) => false,
         }
     }
 

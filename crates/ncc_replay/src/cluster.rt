@@ -47,7 +47,7 @@ pub fn set_value(
     key: &Text,
     value: &Text,
 ) -> Result<(), AllocError>
-    ensures { OnOk result ((q : List ℕ) →
+    ensures sets { OnOk result ((q : List ℕ) →
         get_by_text store.new q ≡ (if bytes_eq key.now q then Some value.now else get_by_text store.old q)) }
 {
     let name = String::from_str(alloc, key.as_str())?;
@@ -126,7 +126,7 @@ impl Cluster {
     pub fn at(&self, member: u8) -> u64
         requires kept { IsKept self.now }
         requires there { (1 ≤ member) × (member ≤ length self.now.members.items) }
-        ensures { result ≡ at_of (run_in self.now) member }
+        ensures place { result ≡ at_of (run_in self.now) member }
     {
         self.members[member as usize - 1].at
     }
@@ -395,7 +395,7 @@ impl Cluster {
 
     /// Why the run refuses an event, if it does.
     pub fn refusal(&self, event: &Event) -> Option<WorldError>
-        ensures { result ≡ refusal (run_in self.now) event.now }
+        ensures exact { result ≡ refusal (run_in self.now) event.now }
     {
         match event {
             Event::Time { to } => {

@@ -84,7 +84,7 @@ pub enum Status {
 
 /// The exit status of the program: 0 where the replay was done, and 2 to 7 otherwise. It takes no memory.
 pub fn status_number(status: &Status) -> u8
-    ensures { result ≡ number_of_status status.now }
+    ensures number { result ≡ number_of_status status.now }
 {
     match status {
         Status::Done => 0,
@@ -160,7 +160,7 @@ fn line_text(alloc: Global, line: u64) -> Result<Text, AllocError>
 /// One line that says how the replay ended, with its LF; the empty text where it was done.
 #[tactic(auto, using(std::proofs::lemmas::List::append_assoc), unfolding(crate::specs::StatusText::text_of_status))]
 pub fn status_text(alloc: Global, status: &Status) -> Result<Text, AllocError>
-    ensures { IfOk result (λ t. t ≡ text_of_status status.now) }
+    ensures text { IfOk result (λ t. t ≡ text_of_status status.now) }
 {
     match status {
         Status::Done => Ok(Text::new(alloc)),

@@ -5,7 +5,8 @@ use Rattle.std.proofs.lemmas.Bool.{and_parts, and_from}
 use Rattle.std.proofs.lemmas.List.Folds.{list_all-append}
 use Rattle.ncc_pack.specs.declared.value.Value.{Value}
 use Rattle.ncc_route.specs.declared.members.Members.{Members}
-use Rattle.ncc_route.specs.Addresses.{is_text, texts_alone, members_are_texts, table_is_texts}
+use Rattle.ncc_pack.specs.Texts.{is_text, texts_alone}
+use Rattle.ncc_route.specs.Addresses.{members_are_texts, table_is_texts}
 use Rattle.ncc_route.specs.Routing.{leading, following, or_else, readers}
 use Rattle.ncc_route.proofs.Numbers.{chosen}
 

@@ -1,9 +1,9 @@
 //! The members of a cluster.
 
 ghost use Rattle.std.specs.Prelude.{◌≡◌, IfOk};
-ghost use Rattle.ncc_route.specs.Addresses.{is_text, texts_alone, members_are_texts};
+ghost use Rattle.ncc_route.specs.Addresses.{members_are_texts};
 
-use ncc_pack::{Value, Values};
+use ncc_pack::Values;
 use std::alloc::AllocError;
 
 /// The addresses of a cluster's members, each a text. Members are numbered from 1, the cores first, then the replicas.
@@ -22,7 +22,7 @@ impl Members {
     pub fn texts_alone(&self) -> bool
         ensures texts { result ≡ members_are_texts self.now }
     {
-        are_texts(&self.cores) && are_texts(&self.replicas)
+        self.cores.texts_alone() && self.replicas.texts_alone()
     }
 
     /// An equal value, on the same allocators.
@@ -35,31 +35,4 @@ impl Members {
             replicas: self.replicas.copy()?,
         })
     }
-}
-
-fn is_a_text(value: &Value) -> bool
-    ensures { result ≡ is_text value.now }
-{
-    match value {
-        Value::Text(_) => true,
-        Value::Null => false,
-        Value::Bool(_) => false,
-        Value::Int(_) => false,
-        Value::Bytes(_) => false,
-        Value::List(_) => false,
-        Value::Dict(_) => false,
-        Value::Node(_) => false,
-    }
-}
-
-/// Says whether all values are texts.
-pub(crate) fn are_texts(values: &Values) -> bool
-    ensures { result ≡ texts_alone values.now }
-{
-    for value in values.as_slice() {
-        if !is_a_text(value) {
-            return false;
-        }
-    }
-    true
 }

@@ -5,7 +5,7 @@ ghost use Rattle.ncc_pack.specs.declared.value.Value.TheVariants as v;
 ghost use Rattle.ncc_route.specs.Addresses.{members_are_texts, table_is_texts};
 ghost use Rattle.ncc_route.specs.Routing.{table, leading, following, readers, addresses, picked, ends};
 
-use crate::members::{Members, are_texts};
+use crate::members::Members;
 use ncc_pack::{Sequence, Text, Value, Values};
 use std::alloc::{AllocError, Global};
 use std::fmt;
@@ -179,7 +179,7 @@ impl Table {
     pub fn texts_alone(&self) -> bool
         ensures texts { result ≡ table_is_texts self.now }
     {
-        are_texts(&self.write) && are_texts(&self.read) && are_texts(&self.route)
+        self.write.texts_alone() && self.read.texts_alone() && self.route.texts_alone()
     }
 
     /// An equal value, on the same allocators.

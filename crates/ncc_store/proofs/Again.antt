@@ -1,5 +1,6 @@
 -- A MERGE that is run again.
-use Rattle.std.proofs.Common.{◌≡◌, ℤ, pos, ◌+ℤ◌, int_lt, Bool, true, false, cond, ◌&&◌, List, [], ◌∷◌, ◌++◌, filter, Option, Some, None, Ok, Err, int_eq, refl, sym, ap, ap₂, subst, ◌∙◌, ◌⊎◌, inl, inr}
+use Rattle.std.proofs.Common.{◌≡◌, ℤ, pos, ◌+ℤ◌, int_lt, Bool, true, false, cond, ◌&&◌, List, [], ◌∷◌, ◌++◌, filter, Option, Some, None}
+use Rattle.std.proofs.Common.{Ok, Err, int_eq, refl, sym, ap, ap₂, subst, ◌∙◌, ◌⊎◌, inl, inr}
 use Rattle.std.specs.Bool.{beq}
 use Rattle.std.specs.Cmp.Lexicographic.{bytes_decides}
 use Rattle.std.specs.Str.{bytes_eq}
@@ -23,7 +24,8 @@ use Rattle.ncc_store.specs.Props.{Name, Props, at_key, held, or_null, prop, put}
 use Rattle.ncc_store.specs.Sum.{Answer, ◌>>=◌, sum}
 use Rattle.ncc_store.specs.Graph.{Graph, ids, last_id}
 use Rattle.ncc_store.specs.Rows.{returned}
-use Rattle.ncc_store.specs.Exec.{Headed, has_label, has_value, taken, matching, made, found_or_made, merged, head, change, nodes_of, step, run}
+use Rattle.ncc_store.specs.Exec.{Headed, has_label, has_value, taken, matching, made, found_or_made, merged, head, change, nodes_of}
+use Rattle.ncc_store.specs.Exec.{step, run}
 use Rattle.ncc_store.proofs.Placed.{itself}
 use Rattle.ncc_store.proofs.Plain.{scalar_again}
 use Rattle.ncc_store.proofs.Joined.{Given, bound, parts_of, ran_of, step_of}
@@ -63,14 +65,17 @@ made_taken l k x g n =
 abbrev grown : Name → Name → Scalar → Graph → Graph
 grown l k x g = record { next = g.next +ℤ pos 1; nodes = g.nodes ++ one_made l k x g ∷ [] }
 
-only_it : (l k : Name) (x : Scalar) (g : Graph) → ((x ≡ s.Null) → ⊥) → matching (Some l) (Some (k, x)) g ≡ [] → matching (Some l) (Some (k, x)) (grown l k x g) ≡ g.next ∷ []
+only_it : (l k : Name) (x : Scalar) (g : Graph) → ((x ≡ s.Null) → ⊥) → matching (Some l) (Some (k, x)) g ≡ []
+    → matching (Some l) (Some (k, x)) (grown l k x g) ≡ g.next ∷ []
 only_it l k x g n none =
-    ap ids (split (taken (Some l) (Some (k, x))) g.nodes (one_made l k x g) (made_taken l k x g n)) ∙ ids_append (filter (taken (Some l) (Some (k, x))) g.nodes) (one_made l k x g)
+    ap ids (split (taken (Some l) (Some (k, x))) g.nodes (one_made l k x g) (made_taken l k x g n))
+    ∙ ids_append (filter (taken (Some l) (Some (k, x))) g.nodes) (one_made l k x g)
     ∙ ap (λ (is : List ℤ). is ++ g.next ∷ []) none where
       split : (p : StoredNode → Bool) (ns : List StoredNode) (m : StoredNode) → p m ≡ true → filter p (ns ++ m ∷ []) ≡ filter p ns ++ m ∷ []
       split p [] m e = ap (λ (t : Bool). cond t (m ∷ []) []) e
       split p (y ∷ ys) m e = go (p y) (split p ys m e) where
-        go : (t : Bool) → filter p (ys ++ m ∷ []) ≡ filter p ys ++ m ∷ [] → cond t (y ∷ filter p (ys ++ m ∷ [])) (filter p (ys ++ m ∷ [])) ≡ cond t (y ∷ filter p ys) (filter p ys) ++ m ∷ []
+        go : (t : Bool) → filter p (ys ++ m ∷ []) ≡ filter p ys ++ m ∷ [] → cond t (y ∷ filter p (ys ++ m ∷ []))
+            (filter p (ys ++ m ∷ [])) ≡ cond t (y ∷ filter p ys) (filter p ys) ++ m ∷ []
         go true again = ap (λ (zs : List StoredNode). y ∷ zs) again
         go false again = again
 
@@ -78,12 +83,15 @@ only_it l k x g n none =
       ids_append [] m = refl
       ids_append (y ∷ ys) m = ap (λ (is : List ℤ). y.id ∷ is) (ids_append ys m)
 
-found_again : (l k : Name) (x : Scalar) (g : Graph) (is : List ℤ) (r : Headed) → ((x ≡ s.Null) → ⊥) → matching (Some l) (Some (k, x)) g ≡ is → found_or_made l k x g is ≡ Ok r → found_or_made l k x r.0 (matching (Some l) (Some (k, x)) r.0) ≡ Ok r
+found_again : (l k : Name) (x : Scalar) (g : Graph) (is : List ℤ) (r : Headed) → ((x ≡ s.Null) → ⊥) → matching (Some l) (Some (k, x)) g
+    ≡ is → found_or_made l k x g is ≡ Ok r → found_or_made l k x r.0 (matching (Some l) (Some (k, x)) r.0) ≡ Ok r
 found_again l k x g [] r n m e = go (int_lt g.next last_id) e where
   again : (q : Headed) → (grown l k x g, g.next ∷ []) ≡ q → found_or_made l k x q.0 (matching (Some l) (Some (k, x)) q.0) ≡ Ok q
-  again q h = subst (λ (y : Headed). found_or_made l k x y.0 (matching (Some l) (Some (k, x)) y.0) ≡ Ok y) h (ap (found_or_made l k x (grown l k x g)) (only_it l k x g n m))
+  again q h = subst (λ (y : Headed). found_or_made l k x y.0 (matching (Some l) (Some (k, x)) y.0) ≡ Ok y) h
+      (ap (found_or_made l k x (grown l k x g)) (only_it l k x g n m))
 
-  go : (t : Bool) → cond t (Ok (grown l k x g, g.next ∷ [])) (Err f.IdsSpent) ≡ Ok r → found_or_made l k x r.0 (matching (Some l) (Some (k, x)) r.0) ≡ Ok r
+  go : (t : Bool) → cond t (Ok (grown l k x g, g.next ∷ [])) (Err f.IdsSpent) ≡ Ok r
+      → found_or_made l k x r.0 (matching (Some l) (Some (k, x)) r.0) ≡ Ok r
   go true h = again r (let t : (grown l k x g, g.next ∷ []) ≡ r = cc in t)
   go false h = absurd (cc)
 found_again l k x g (i ∷ is) r n m e =
@@ -96,7 +104,8 @@ merged_again l k g (s.Bool b) r e = found_again l k (s.Bool b) g (matching (Some
 merged_again l k g (s.Int z) r e = found_again l k (s.Int z) g (matching (Some l) (Some (k, s.Int z)) g) r (λ n. absurd (cc)) refl e
 merged_again l k g (s.Text t) r e = found_again l k (s.Text t) g (matching (Some l) (Some (k, s.Text t)) g) r (λ n. absurd (cc)) refl e
 
-head_again : (params : Props) (g : Graph) (l : Name) (p : Pair) (r : Headed) → head params g (h.Merge l p) ≡ Ok r → head params r.0 (h.Merge l p) ≡ Ok r
+head_again : (params : Props) (g : Graph) (l : Name) (p : Pair) (r : Headed) → head params g (h.Merge l p) ≡ Ok r
+    → head params r.0 (h.Merge l p) ≡ Ok r
 head_again params g l p r e =
     let one = bound (sum params [] p.value) (merged l p.key g) r e in
     ap (λ (a : Answer Scalar). a >>= merged l p.key r.0) one.1.0 ∙ merged_again l p.key g one.0 r one.1.1
@@ -112,7 +121,8 @@ keeps params (c.Set cs) r k = absurd (cc)
 keeps params c.Delete r k = absurd (cc)
 
 pub merges_once : (g after : Graph) (call : Call) (x : Statement) (label : Name) (pair : Pair) (rows : Given)
-    → parsed call.source ≡ Ok x → x.head ≡ h.Merge label pair → x.change ≡ c.Keep → step g call ≡ Ok (rows, after) → step after call ≡ Ok (rows, after)
+    → parsed call.source ≡ Ok x → x.head ≡ h.Merge label pair → x.change ≡ c.Keep → step g call ≡ Ok (rows, after) → step after call
+    ≡ Ok (rows, after)
 merges_once g after call x label pair rows p is_merge is_keep e =
     let q = parts_of g call.params x rows after (ran_of g call x rows after p e) in
     let stays : after ≡ q.headed.0 = kept call.params x.change q.headed after is_keep q.change in
@@ -121,6 +131,7 @@ merges_once g after call x label pair rows p is_merge is_keep e =
     ap₂ (head call.params) stays is_merge ∙ head_again call.params g label pair q.headed first in
     let changed : change call.params x.change q.headed ≡ Ok after = keeps call.params x.change q.headed is_keep ∙ ap Ok (sym stays) in
     step_of after call x p
-    ∙ ap (λ (a : Answer Headed). a >>= λ r. change call.params x.change r >>= λ k. returned call.params x.tail (nodes_of x.head k r.1) >>= λ rs. Ok (rs, k)) second
+    ∙ ap (λ (a : Answer Headed). a >>= λ r. change call.params x.change r >>= λ k. returned call.params x.tail (nodes_of x.head k r.1)
+    >>= λ rs. Ok (rs, k)) second
     ∙ ap (λ (a : Answer Graph). a >>= λ k. returned call.params x.tail (nodes_of x.head k q.headed.1) >>= λ rs. Ok (rs, k)) changed
     ∙ ap (λ (a : Answer Given). a >>= λ rs. Ok (rs, after)) q.returned

@@ -24,29 +24,36 @@ owned_at k (e ∷ es) = rw (is_eq-slice_cmp k e.0.now, owned_at k es) refl
 
 -- ---- changes at one key
 
-owned_by : (o : Ordering) (ls es gs : List (Bor Name × Value)) → owned (match_ordering o ls es gs) ≡ match_ordering o (owned ls) (owned es) (owned gs)
+owned_by : (o : Ordering) (ls es gs : List (Bor Name × Value)) → owned (match_ordering o ls es gs) ≡ match_ordering o (owned ls)
+    (owned es) (owned gs)
 owned_by Less ls es gs = refl
 owned_by Equal ls es gs = refl
 owned_by Greater ls es gs = refl
 
-pub owned_insert : (es : List (Bor Name × Value)) (k : Bor Name) (v : Value) → owned (insert_entry (λ x y. slice_cmp nat_cmp x.now y.now) es k v) ≡ insert_entry name_cmp (owned es) k.now v
+pub owned_insert : (es : List (Bor Name × Value)) (k : Bor Name) (v : Value)
+    → owned (insert_entry (λ x y. slice_cmp nat_cmp x.now y.now) es k v) ≡ insert_entry name_cmp (owned es) k.now v
 owned_insert [] k v = refl
 owned_insert (e ∷ es) k v =
-    owned_by (slice_cmp nat_cmp k.now e.0.now) ((k, v) ∷ e ∷ es) ((e.0, v) ∷ es) (e ∷ insert_entry (λ x y. slice_cmp nat_cmp x.now y.now) es k v)
-    ∙ ap (λ (rest : Props). match_ordering (name_cmp k.now e.0.now) ((k.now, v) ∷ owned (e ∷ es)) ((e.0.now, v) ∷ owned es) ((e.0.now, e.1) ∷ rest)) (owned_insert es k v)
+    owned_by (slice_cmp nat_cmp k.now e.0.now) ((k, v) ∷ e ∷ es) ((e.0, v) ∷ es) (e ∷ insert_entry (λ x y. slice_cmp nat_cmp x.now
+    y.now) es k v)
+    ∙ ap (λ (rest : Props). match_ordering (name_cmp k.now e.0.now) ((k.now, v) ∷ owned (e ∷ es)) ((e.0.now, v) ∷ owned es)
+    ((e.0.now, e.1) ∷ rest)) (owned_insert es k v)
 
-pub owned_remove : (k : Name) (es : List (Bor Name × Value)) → owned (remove_entry (is_at (λ q. slice_cmp nat_cmp k q.now)) es) ≡ remove_entry (is_at (name_cmp k)) (owned es)
+pub owned_remove : (k : Name) (es : List (Bor Name × Value)) → owned (remove_entry (is_at (λ q. slice_cmp nat_cmp k q.now)) es)
+    ≡ remove_entry (is_at (name_cmp k)) (owned es)
 owned_remove k [] = refl
 owned_remove k (e ∷ es) = go (is_at (λ (q : Bor Name). slice_cmp nat_cmp k q.now) e.0) refl (owned_remove k es)
   where
-    go : (b : Bool) → is_at (λ (q : Bor Name). slice_cmp nat_cmp k q.now) e.0 ≡ b → owned (remove_entry (is_at (λ q. slice_cmp nat_cmp k q.now)) es) ≡ remove_entry (is_at (name_cmp k)) (owned es)
+    go : (b : Bool) → is_at (λ (q : Bor Name). slice_cmp nat_cmp k q.now) e.0 ≡ b
+        → owned (remove_entry (is_at (λ q. slice_cmp nat_cmp k q.now)) es) ≡ remove_entry (is_at (name_cmp k)) (owned es)
         → owned (remove_entry (is_at (λ q. slice_cmp nat_cmp k q.now)) (e ∷ es)) ≡ remove_entry (is_at (name_cmp k)) (owned (e ∷ es))
     go true b rest = rw b refl
     go false b rest = rw b (ap (λ (ps : Props). (e.0.now, e.1) ∷ ps) rest)
 
 -- ---- keys that come in their order
 
-below_later : (k : Name) (ps : Props) (p : Name × Value) (rest : Props) → AllByRecursion (λ q. name_cmp k q ≡ Less) (keys_of (ps ++ p ∷ rest)) → name_cmp k p.0 ≡ Less
+below_later : (k : Name) (ps : Props) (p : Name × Value) (rest : Props) → AllByRecursion (λ q. name_cmp k q ≡ Less)
+    (keys_of (ps ++ p ∷ rest)) → name_cmp k p.0 ≡ Less
 below_later k [] p rest h = h.0
 below_later k (x ∷ ps) p rest h = below_later k ps p rest h.1
 
@@ -58,17 +65,20 @@ inserted_last (x ∷ ps) p rest h =
     let above : name_cmp p.0 x.0 ≡ Greater = nat_list_cmp_total.antisymm p.0 x.0 ∙ ap ordering_reverse below in
     rw above (ap (λ (ps : Props). x ∷ ps) (inserted_last ps p rest h.1))
 
-pub one_more : (ps : Props) (i : ℕ) (d : Name × Value) (es fs : List (Bor Name × Value)) (k : Bor Name) (v : Value) → IsKeyed ps → i < length ps → k.now ≡ (get_or ps i d).0 → v ≡ (get_or ps i d).1
+pub one_more : (ps : Props) (i : ℕ) (d : Name × Value) (es fs : List (Bor Name × Value)) (k : Bor Name) (v : Value) → IsKeyed ps
+    → i < length ps → k.now ≡ (get_or ps i d).0 → v ≡ (get_or ps i d).1
     → fs ≡ insert_entry (λ x y. slice_cmp nat_cmp x.now y.now) es k v → owned es ≡ take i ps → owned fs ≡ take (i + 1) ps
 one_more ps i d es fs k v keyed lt is_key is_value is so_far =
     let p : Name × Value = get_or ps i d in
     let parts : take i ps ++ p ∷ drop (i + 1) ps ≡ ps = rw (← drop_more ps i d lt) (take-append-drop i ps) in
     let whole : IsKeyed (take i ps ++ p ∷ drop (i + 1) ps) = rw parts keyed in
-    ap owned is ∙ owned_insert es k v ∙ rw (so_far, is_key, is_value) (inserted_last (take i ps) p (drop (i + 1) ps) whole ∙ sym (take_more ps i d lt))
+    ap owned is ∙ owned_insert es k v ∙ rw (so_far, is_key, is_value) (inserted_last (take i ps) p (drop (i + 1) ps) whole
+    ∙ sym (take_more ps i d lt))
 
 -- ---- a property that is set
 
-pub put_null : (es fs : List (Bor Name × Value)) (k : Name) → fs ≡ remove_entry (is_at (λ q. slice_cmp nat_cmp k q.now)) es → owned fs ≡ put (owned es) k s.Null
+pub put_null : (es fs : List (Bor Name × Value)) (k : Name) → fs ≡ remove_entry (is_at (λ q. slice_cmp nat_cmp k q.now)) es → owned fs
+    ≡ put (owned es) k s.Null
 unfolding put
 put_null es fs k is = ap owned is ∙ owned_remove k es
 
@@ -79,16 +89,19 @@ put_by ps k (s.Bool b) h = refl
 put_by ps k (s.Int z) h = refl
 put_by ps k (s.Text t) h = refl
 
-pub put_other : (es fs : List (Bor Name × Value)) (k : Bor Name) (x : Scalar) (v : Value) → ¬ (x ≡ s.Null) → v ≡ value_of x → fs ≡ insert_entry (λ x y. slice_cmp nat_cmp x.now y.now) es k v → owned fs ≡ put (owned es) k.now x
+pub put_other : (es fs : List (Bor Name × Value)) (k : Bor Name) (x : Scalar) (v : Value) → ¬ (x ≡ s.Null) → v ≡ value_of x
+    → fs ≡ insert_entry (λ x y. slice_cmp nat_cmp x.now y.now) es k v → owned fs ≡ put (owned es) k.now x
 put_other es fs k x v h is_value is = ap owned is ∙ owned_insert es k v ∙ rw is_value (put_by (owned es) k.now x h)
 
 -- ---- the properties as a list
 
-less_owned : (k : Bor Name) (es : List (Bor Name × Value)) → AllByRecursion (λ q. slice_cmp nat_cmp k.now q.now ≡ Less) (keys_of es) → AllByRecursion (λ q. name_cmp k.now q ≡ Less) (keys_of (owned es))
+less_owned : (k : Bor Name) (es : List (Bor Name × Value)) → AllByRecursion (λ q. slice_cmp nat_cmp k.now q.now ≡ Less) (keys_of es)
+    → AllByRecursion (λ q. name_cmp k.now q ≡ Less) (keys_of (owned es))
 less_owned k [] h = h
 less_owned k (e ∷ es) h = (h.0, less_owned k es h.1)
 
-pub keyed_owned : (es : List (Bor Name × Value)) → IsStrictlySortedBy (λ x y. slice_cmp nat_cmp x.now y.now) (keys_of es) → IsKeyed (owned es)
+pub keyed_owned : (es : List (Bor Name × Value)) → IsStrictlySortedBy (λ x y. slice_cmp nat_cmp x.now y.now) (keys_of es)
+    → IsKeyed (owned es)
 unfolding IsStrictlySortedBy
 keyed_owned [] h = h
 keyed_owned (e ∷ es) h = (less_owned e.0 es h.0, keyed_owned es h.1)

@@ -1,5 +1,6 @@
 -- Parameters, put into a map one by one: looking up in it is looking up in the pairs.
-use Rattle.std.proofs.Common.{◌≡◌, ℕ, ◌+◌, ◌<◌, ◌≤◌, Bool, true, false, cond, not, ◌&&◌, length, get_or, take, drop, List, [], ◌∷◌, ◌++◌, Option, Some, refl, sym, ap, ◌∙◌, arith}
+use Rattle.std.proofs.Common.{◌≡◌, ℕ, ◌+◌, ◌<◌, ◌≤◌, Bool, true, false, cond, not, ◌&&◌, length, get_or, take, drop, List, [], ◌∷◌}
+use Rattle.std.proofs.Common.{◌++◌, Option, Some, refl, sym, ap, ◌∙◌, arith}
 use Rattle.std.specs.Prelude.{IsTrue, nat_le}
 use Rattle.std.specs.Borrow.{Bor}
 use Rattle.std.specs.List.{list_any, list_all}
@@ -24,11 +25,14 @@ use Rattle.ncc_store.specs.Views.{shared}
 
 -- ---- one more pair behind others
 
-at_key-push : (q : Name) (ps : Props) (p : Name × Value) → list_any (bytes_eq p.0) (keys ps) ≡ false → at_key q (ps ++ p ∷ []) ≡ cond (bytes_eq p.0 q) (Some p.1) (at_key q ps)
+at_key-push : (q : Name) (ps : Props) (p : Name × Value) → list_any (bytes_eq p.0) (keys ps) ≡ false → at_key q (ps ++ p ∷ [])
+    ≡ cond (bytes_eq p.0 q) (Some p.1) (at_key q ps)
 at_key-push q [] p h = rw (nat_list_eq_equiv.symm p.0 q) refl
 at_key-push q (x ∷ ps) p h = go (bytes_eq p.0 x.0) (bytes_eq q x.0) refl refl (at_key-push q ps p)
   where
-    go : (a b : Bool) → bytes_eq p.0 x.0 ≡ a → bytes_eq q x.0 ≡ b → (list_any (bytes_eq p.0) (keys ps) ≡ false → at_key q (ps ++ p ∷ []) ≡ cond (bytes_eq p.0 q) (Some p.1) (at_key q ps)) → at_key q (x ∷ ps ++ p ∷ []) ≡ cond (bytes_eq p.0 q) (Some p.1) (at_key q (x ∷ ps))
+    go : (a b : Bool) → bytes_eq p.0 x.0 ≡ a → bytes_eq q x.0 ≡ b → (list_any (bytes_eq p.0) (keys ps) ≡ false → at_key q (ps ++ p ∷ [])
+        ≡ cond (bytes_eq p.0 q) (Some p.1) (at_key q ps)) → at_key q (x ∷ ps ++ p ∷ [])
+        ≡ cond (bytes_eq p.0 q) (Some p.1) (at_key q (x ∷ ps))
     go true b e f rest = absurd (let g : true ≡ false = rw e at h in cc)
     go false true e f rest =
         let same : q ≡ x.0 = (bytes_decides q x.0).0 f in
@@ -48,9 +52,11 @@ choice : (b : Bool) (v : Bor Value) (o : Option (Bor Value)) → now_of (cond b 
 choice true v o = refl
 choice false v o = refl
 
-found_in : (q : Name) (es : List (Bor Name × Bor Value)) → now_of (lookup (is_at (λ k. slice_cmp nat_cmp q k.now)) es) ≡ at_key q (shared es)
+found_in : (q : Name) (es : List (Bor Name × Bor Value)) → now_of (lookup (is_at (λ k. slice_cmp nat_cmp q k.now)) es)
+    ≡ at_key q (shared es)
 found_in q [] = refl
-found_in q (e ∷ es) = rw (is_eq-slice_cmp q e.0.now) (choice (bytes_eq q e.0.now) e.1 (lookup (is_at (λ k. slice_cmp nat_cmp q k.now)) es) ∙ ap (λ o. cond (bytes_eq q e.0.now) (Some e.1.now) o) (found_in q es))
+found_in q (e ∷ es) = rw (is_eq-slice_cmp q e.0.now) (choice (bytes_eq q e.0.now) e.1 (lookup (is_at (λ k. slice_cmp nat_cmp q k.now))
+    es) ∙ ap (λ o. cond (bytes_eq q e.0.now) (Some e.1.now) o) (found_in q es))
 
 pub shared-is : (q : Name) (m : BTreeMap (Bor Name) (Bor Value)) → now_of (got q m) ≡ at_key q (shared m.entries)
 shared-is q m = found_in q m.entries
@@ -59,7 +65,8 @@ shared-is q m = found_in q m.entries
 
 differ : (ps : Props) → IsTrue (fits (value.Dict ps)) → distinct [] ps ≡ true
 differ ps h =
-    let parts : fits (value.Dict ps) ≡ (nat_le (length ps) max_size && list_all (λ p. fits_text p.0 && fits_within p.1 31) ps && distinct [] ps) = fits_of_dict ps ∙ dict_more ps max_depth (omega arith) in
+    let parts : fits (value.Dict ps) ≡ (nat_le (length ps) max_size && list_all (λ p. fits_text p.0 && fits_within p.1 31) ps
+    && distinct [] ps) = fits_of_dict ps ∙ dict_more ps max_depth (omega arith) in
     last (nat_le (length ps) max_size && list_all (λ p. fits_text p.0 && fits_within p.1 31) ps) (distinct [] ps) (rw parts at h)
   where
     last : (a b : Bool) → IsTrue (a && b) → b ≡ true
@@ -76,16 +83,21 @@ none_yet m ps none = record { apart = refl; same = λ q. ap (λ (es : List (Bor 
 unseen : (a b : Bool) → (not a && b) ≡ true → a ≡ false
 unseen a b h = grind arith
 
-pub one_more : (m n : BTreeMap (Bor Name) (Bor Value)) (key : Bor Name) (held : Bor Value) (ps : Props) (i : ℕ) (d : Name × Value) → IsTrue (fits (value.Dict ps)) → i < length ps → key.now ≡ (get_or ps i d).0 → held.now ≡ (get_or ps i d).1
+pub one_more : (m n : BTreeMap (Bor Name) (Bor Value)) (key : Bor Name) (held : Bor Value) (ps : Props) (i : ℕ) (d : Name × Value)
+    → IsTrue (fits (value.Dict ps)) → i < length ps → key.now ≡ (get_or ps i d).0 → held.now ≡ (get_or ps i d).1
     → tree.Updates (λ x y. slice_cmp nat_cmp x.now y.now) m n key (Some held) → Holds m ps i → Holds n ps (i + 1)
 one_more m n key held ps i d fit lt is_key is_held up h =
     let p : Name × Value = get_or ps i d in
-    let first : list_any (bytes_eq p.0) (keys (take i ps)) ≡ false = unseen _ _ (sym (distinct_step ps i d lt) ∙ sym h.apart ∙ differ ps fit) in
-    let after : (q : Name) → at_key q (shared n.entries) ≡ cond (bytes_eq p.0 q) (Some p.1) (at_key q (take i ps)) = λ q. sym (shared-is q n) ∙ ap now_of (btree_map_updates_str key.now m n (Some held) up q) ∙ choice (bytes_eq key.now q) held (got q m) ∙ rw (is_key, is_held, shared-is q m, h.same q) refl in
+    let first : list_any (bytes_eq p.0) (keys (take i ps)) ≡ false = unseen _ _ (sym (distinct_step ps i d lt) ∙ sym h.apart
+    ∙ differ ps fit) in
+    let after : (q : Name) → at_key q (shared n.entries) ≡ cond (bytes_eq p.0 q) (Some p.1) (at_key q (take i ps)) =
+    λ q. sym (shared-is q n) ∙ ap now_of (btree_map_updates_str key.now m n (Some held) up q) ∙ choice (bytes_eq key.now q) held
+    (got q m) ∙ rw (is_key, is_held, shared-is q m, h.same q) refl in
     record {
       apart = is_fresh ps i d lt h.apart first;
       same = λ q. after q ∙ sym (at_key-push q (take i ps) p first) ∙ ap (at_key q) (sym (take_more ps i d lt));
     }
 
-pub all_held : (m : BTreeMap (Bor Name) (Bor Value)) (ps : Props) (i : ℕ) → length ps ≤ i → Holds m ps i → (k : Name) → at_key k (shared m.entries) ≡ at_key k ps
+pub all_held : (m : BTreeMap (Bor Name) (Bor Value)) (ps : Props) (i : ℕ) → length ps ≤ i → Holds m ps i → (k : Name)
+    → at_key k (shared m.entries) ≡ at_key k ps
 all_held m ps i le h k = h.same k ∙ ap (at_key k) (take_all i ps le)

@@ -24,12 +24,15 @@ at_key-is k [] = refl
 at_key-is k (p ∷ ps) = rw (is_eq-slice_cmp k p.0, at_key-is k ps) refl
 
 module _ (ps : Props) (sorted : IsKeyed ps) (k : Name) where
-  next_is_not_below : (i : ℕ) (d : Name × Value) → 0 ≤ i → i + 1 < length ps → is_lt (name_cmp (get_or ps (i + 1) d).0 (get_or ps i d).0) ≡ false
+  next_is_not_below : (i : ℕ) (d : Name × Value) → 0 ≤ i → i + 1 < length ps
+      → is_lt (name_cmp (get_or ps (i + 1) d).0 (get_or ps i d).0) ≡ false
   next_is_not_below i d _ lt =
       let key : Name × Value → Name = λ p. p.0 in
       let n : i + 1 < length (keys_of ps) = omega (arith, length-map ps key) in
-      let below : name_cmp (get_or (keys_of ps) i d.0) (get_or (keys_of ps) (i + 1) d.0) ≡ Less = Less-from_sorted name_cmp (keys_of ps) i (i + 1) d.0 sorted (omega arith) n in
-      let below : name_cmp (get_or ps i d).0 (get_or ps (i + 1) d).0 ≡ Less = rw (← get_or-map key ps i d d.0 (omega arith), ← get_or-map key ps (i + 1) d d.0 lt) below in
+      let below : name_cmp (get_or (keys_of ps) i d.0) (get_or (keys_of ps) (i + 1) d.0) ≡ Less = Less-from_sorted name_cmp (keys_of ps)
+      i (i + 1) d.0 sorted (omega arith) n in
+      let below : name_cmp (get_or ps i d).0 (get_or ps (i + 1) d).0 ≡ Less =
+      rw (← get_or-map key ps i d d.0 (omega arith), ← get_or-map key ps (i + 1) d d.0 lt) below in
       ap is_lt (nat_list_cmp_total.antisymm (get_or ps (i + 1) d).0 (get_or ps i d).0 ∙ ap ordering_reverse below)
 
   rises : IsNonDecreasingBy (λ p. ordering_index (name_cmp p.0 k)) ps
@@ -39,14 +42,16 @@ module _ (ps : Props) (sorted : IsKeyed ps) (k : Name) where
   found i d lt equal =
       let p : Name × Value = get_or ps i d in
       let own : p.0 ≡ k = (bytes_decides p.0 k).0 (sym (is_eq-slice_cmp p.0 k) ∙ ap is_eq (equal d)) in
-      let at_own : lookup (eq_by_cmp name_cmp p.0) ps ≡ Some p.1 = lookup_from_place (eq_by_cmp_equiv nat_list_cmp_total) ps i p.0 p.1 (IsDistinct-from_sorted name_cmp (keys_of ps) sorted) (slice_get-get_or ps i d lt) in
+      let at_own : lookup (eq_by_cmp name_cmp p.0) ps ≡ Some p.1 = lookup_from_place (eq_by_cmp_equiv nat_list_cmp_total) ps i p.0 p.1
+      (IsDistinct-from_sorted name_cmp (keys_of ps) sorted) (slice_get-get_or ps i d lt) in
       let at_this : lookup (is_at (name_cmp k)) ps ≡ Some p.1 = rw own at at_own in
       sym (at_key-is k ps ∙ at_this)
 
   at_place : (i : ℕ) (p : Name × Value) (o : Ordering) → slice_get ps i ≡ Some p → name_cmp (get_or ps i p).0 k ≡ o → name_cmp p.0 k ≡ o
   at_place i p o e h = rw (get_or_from_slice_get ps i p p e) at h
 
-  pub absent : (i : ℕ) → (IsNonDecreasingBy (λ q. ordering_index (name_cmp q.0 k)) ps → IsPartitionPoint (λ q. name_cmp q.0 k ≡ Less) (λ q. name_cmp q.0 k ≡ Greater) ps i) → None ≡ at_key k ps
+  pub absent : (i : ℕ) → (IsNonDecreasingBy (λ q. ordering_index (name_cmp q.0 k)) ps → IsPartitionPoint (λ q. name_cmp q.0 k ≡ Less)
+      (λ q. name_cmp q.0 k ≡ Greater) ps i) → None ≡ at_key k ps
   absent i parted =
       let parts : IsPartitionPoint (λ q. name_cmp q.0 k ≡ Less) (λ q. name_cmp q.0 k ≡ Greater) ps i = parted rises in
       let turned : (p : Name × Value) → name_cmp k p.0 ≡ ordering_reverse (name_cmp p.0 k) = λ p. nat_list_cmp_total.antisymm k p.0 in

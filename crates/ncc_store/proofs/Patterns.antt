@@ -18,6 +18,7 @@ unfolding prop
 misses k x ps e = null_is_nothing x ∙ ap (λ (o : Option Value). same (held o) x) e
 
 -- there is one, and it was compared
-pub compares : (k : Name) (x : Scalar) (ps : Props) (v : Value) (r : Bool) → Some v ≡ at_key k ps → r ≡ same (or_null (scalar v)) x → r ≡ same (prop k ps) x
+pub compares : (k : Name) (x : Scalar) (ps : Props) (v : Value) (r : Bool) → Some v ≡ at_key k ps → r ≡ same (or_null (scalar v)) x
+    → r ≡ same (prop k ps) x
 unfolding prop
 compares k x ps v r e h = h ∙ ap (λ (o : Option Value). same (held o) x) e

@@ -1,5 +1,7 @@
 -- Nodes by ascending id: what is found, replaced and taken out.
-use Rattle.std.proofs.Common.{◌≡◌, ℕ, zero, suc, ◌<◌, ℤ, ◌<ℤ◌, ◌≤ℤ◌, int_lt, Bool, true, false, not, cond, List, [], ◌∷◌, ◌++◌, length, map, filter, get_or, set, All, Some, None, Less, Equal, Greater, Ordering, int_cmp, int_eq, refl, sym, ap, ap₂, subst, ◌∙◌, arith}
+use Rattle.std.proofs.Common.{◌≡◌, ℕ, zero, suc, ◌<◌, ℤ, ◌<ℤ◌, ◌≤ℤ◌, int_lt, Bool, true, false, not, cond, List, [], ◌∷◌, ◌++◌, length}
+use Rattle.std.proofs.Common.{map, filter, get_or, set, All, Some, None, Less, Equal, Greater, Ordering, int_cmp, int_eq, refl, sym, ap}
+use Rattle.std.proofs.Common.{ap₂, subst, ◌∙◌, arith}
 use Rattle.std.specs.Cmp.{signed_Decides, int_ranked, int_cmp_is}
 use Rattle.std.specs.List.{AllByRecursion}
 use Rattle.std.specs.List.Sorted.{IsStrictlySortedBy}
@@ -126,7 +128,8 @@ pub found_id : (id : ℤ) (ns : List StoredNode) (x : StoredNode) → find id ns
 found_id id [] x e = absurd (let f : None ≡ Some x = sym (find_nil id) ∙ e in cc)
 found_id id (n ∷ ns) x e = go (int_eq n.id id) refl (found_id id ns x) where
   go : (t : Bool) → int_eq n.id id ≡ t → (find id ns ≡ Some x → x.id ≡ id) → x.id ≡ id
-  go true h again = let f : Some n ≡ Some x = sym (find_here id n ns (same_id n.id id h)) ∙ e in let k : n ≡ x = cc in ap (λ (y : StoredNode). y.id) (sym k) ∙ same_id n.id id h
+  go true h again = let f : Some n ≡ Some x = sym (find_here id n ns (same_id n.id id h)) ∙ e in let k : n ≡ x = cc in
+      ap (λ (y : StoredNode). y.id) (sym k) ∙ same_id n.id id h
   go false h again = again (sym (find_past id n ns h) ∙ e)
 
 -- what holds of each node holds of the one that is found
@@ -134,7 +137,8 @@ pub All_found : (P : StoredNode → Type 0) (id : ℤ) (ns : List StoredNode) (x
 All_found P id [] x all e = absurd (let f : None ≡ Some x = sym (find_nil id) ∙ e in cc)
 All_found P id (n ∷ ns) x all e = go (int_eq n.id id) refl (All_found P id ns x (All-tail P n ns all)) where
   go : (t : Bool) → int_eq n.id id ≡ t → (find id ns ≡ Some x → P x) → P x
-  go true h again = let f : Some n ≡ Some x = sym (find_here id n ns (same_id n.id id h)) ∙ e in let k : n ≡ x = cc in subst P k (All-head P n ns all)
+  go true h again = let f : Some n ≡ Some x = sym (find_here id n ns (same_id n.id id h)) ∙ e in let k : n ≡ x = cc in
+      subst P k (All-head P n ns all)
   go false h again = again (sym (find_past id n ns h) ∙ e)
 
 -- ---- two lists in order in which the same is found are one
@@ -147,7 +151,8 @@ same_found (n ∷ ns) (m ∷ ms) a b h = go (int_cmp n.id m.id) refl (same_found
   past : n.id ≡ m.id → (id : ℤ) → find id ns ≡ find id ms
   past e id = at (int_eq n.id id) refl where
     at : (t : Bool) → int_eq n.id id ≡ t → find id ns ≡ find id ms
-    at true g = let k : n.id ≡ id = same_id n.id id g in find_above id ns (subst (λ i. Above i ns) k (above_head n ns a)) ∙ sym (find_above id ms (subst (λ i. Above i ms) (sym e ∙ k) (above_head m ms b)))
+    at true g = let k : n.id ≡ id = same_id n.id id g in find_above id ns (subst (λ i. Above i ns) k (above_head n ns a))
+        ∙ sym (find_above id ms (subst (λ i. Above i ms) (sym e ∙ k) (above_head m ms b)))
     at false g = sym (find_past id n ns g) ∙ h id ∙ find_past id m ms (ap (λ (i : ℤ). int_eq i id) (sym e) ∙ g)
 
   go : (o : Ordering) → int_cmp n.id m.id ≡ o → (((id : ℤ) → find id ns ≡ find id ms) → ns ≡ ms) → n ∷ ns ≡ m ∷ ms
@@ -172,16 +177,19 @@ above_at k [] i d a lt = absurd (omega arith)
 above_at k (n ∷ ns) zero d a lt = a.0
 above_at k (n ∷ ns) (suc i) d a lt = above_at k ns i d a.1 (omega arith)
 
-pub find_at : (id : ℤ) (ns : List StoredNode) (i : ℕ) (d : StoredNode) → Ascends ns → i < length ns → (get_or ns i d).id ≡ id → find id ns ≡ Some (get_or ns i d)
+pub find_at : (id : ℤ) (ns : List StoredNode) (i : ℕ) (d : StoredNode) → Ascends ns → i < length ns → (get_or ns i d).id ≡ id
+    → find id ns ≡ Some (get_or ns i d)
 find_at id [] i d a lt e = absurd (omega arith)
 find_at id (n ∷ ns) zero d a lt e = find_here id n ns e
 find_at id (n ∷ ns) (suc i) d a lt e =
     let past : n.id <ℤ id = subst (λ k. n.id <ℤ k) e (above_at n.id ns i d (above_head n ns a) (omega arith)) in
     find_past id n ns (below_apart n.id id past) ∙ find_at id ns i d (ascends_tail n ns a) (omega arith) e
 
-pub find_nowhere : (id : ℤ) (ns : List StoredNode) → ((i : ℕ) (d : StoredNode) → i < length ns → (get_or ns i d).id ≡ id → ⊥) → find id ns ≡ None
+pub find_nowhere : (id : ℤ) (ns : List StoredNode) → ((i : ℕ) (d : StoredNode) → i < length ns → (get_or ns i d).id ≡ id → ⊥)
+    → find id ns ≡ None
 find_nowhere id [] h = find_nil id
-find_nowhere id (n ∷ ns) h = find_past id n ns (apart n.id id (h 0 n (omega arith))) ∙ find_nowhere id ns (λ i d lt. h (suc i) d (omega arith))
+find_nowhere id (n ∷ ns) h = find_past id n ns (apart n.id id (h 0 n (omega arith)))
+    ∙ find_nowhere id ns (λ i d lt. h (suc i) d (omega arith))
 
 -- ---- a node in the place of the one that has its id
 
@@ -208,24 +216,29 @@ pub ids_replace : (m : StoredNode) (ns : List StoredNode) → ids (replace m ns)
 ids_replace m [] = ap ids (replace_nil m)
 ids_replace m (n ∷ ns) = go (int_eq n.id m.id) refl (ids_replace m ns) where
   go : (t : Bool) → int_eq n.id m.id ≡ t → ids (replace m ns) ≡ ids ns → ids (replace m (n ∷ ns)) ≡ ids (n ∷ ns)
-  go true h again = ap ids (replace_here m n ns (same_id n.id m.id h)) ∙ ap₂ (λ (i : ℤ) (is : List ℤ). i ∷ is) (sym (same_id n.id m.id h)) again
+  go true h again = ap ids (replace_here m n ns (same_id n.id m.id h)) ∙ ap₂ (λ (i : ℤ) (is : List ℤ). i ∷ is)
+      (sym (same_id n.id m.id h)) again
   go false h again = ap ids (replace_past m n ns h) ∙ ap (λ (is : List ℤ). n.id ∷ is) again
 
 pub ascends_replace : (m : StoredNode) (ns : List StoredNode) → Ascends ns → Ascends (replace m ns)
 ascends_replace m ns a = subst (IsStrictlySortedBy int_cmp) (sym (ids_replace m ns)) a
 
-pub set_replaces : (m : StoredNode) (ns : List StoredNode) (i : ℕ) (d : StoredNode) → Ascends ns → i < length ns → (get_or ns i d).id ≡ m.id → replace m ns ≡ set ns i m
+pub set_replaces : (m : StoredNode) (ns : List StoredNode) (i : ℕ) (d : StoredNode) → Ascends ns → i < length ns → (get_or ns i d).id
+    ≡ m.id → replace m ns ≡ set ns i m
 set_replaces m [] i d a lt e = absurd (omega arith)
 set_replaces m (n ∷ ns) zero d a lt e =
-    replace_here m n ns e ∙ ap (λ (xs : List StoredNode). m ∷ xs) (replace_none m ns (find_above m.id ns (subst (λ k. Above k ns) e (above_head n ns a))))
+    replace_here m n ns e ∙ ap (λ (xs : List StoredNode). m ∷ xs)
+    (replace_none m ns (find_above m.id ns (subst (λ k. Above k ns) e (above_head n ns a))))
 set_replaces m (n ∷ ns) (suc i) d a lt e =
     let past : n.id <ℤ m.id = subst (λ k. n.id <ℤ k) e (above_at n.id ns i d (above_head n ns a) (omega arith)) in
-    replace_past m n ns (below_apart n.id m.id past) ∙ ap (λ (xs : List StoredNode). n ∷ xs) (set_replaces m ns i d (ascends_tail n ns a) (omega arith) e)
+    replace_past m n ns (below_apart n.id m.id past) ∙ ap (λ (xs : List StoredNode). n ∷ xs)
+    (set_replaces m ns i d (ascends_tail n ns a) (omega arith) e)
 
 pub find_replaced : (m x : StoredNode) (ns : List StoredNode) → find m.id ns ≡ Some x → find m.id (replace m ns) ≡ Some m
 find_replaced m x [] e = absurd (let f : None ≡ Some x = sym (find_nil m.id) ∙ e in cc)
 find_replaced m x (n ∷ ns) e = go (int_eq n.id m.id) refl (find_replaced m x ns) where
-  go : (t : Bool) → int_eq n.id m.id ≡ t → (find m.id ns ≡ Some x → find m.id (replace m ns) ≡ Some m) → find m.id (replace m (n ∷ ns)) ≡ Some m
+  go : (t : Bool) → int_eq n.id m.id ≡ t → (find m.id ns ≡ Some x → find m.id (replace m ns) ≡ Some m) → find m.id (replace m (n ∷ ns))
+      ≡ Some m
   go true h again = ap (find m.id) (replace_here m n ns (same_id n.id m.id h)) ∙ find_here m.id m (replace m ns) refl
   go false h again = ap (find m.id) (replace_past m n ns h) ∙ find_past m.id n (replace m ns) h ∙ again (sym (find_past m.id n ns h) ∙ e)
 
@@ -259,11 +272,13 @@ ascends_filter p (n ∷ ns) a = go (p n) (ascends_filter p ns (ascends_tail n ns
 
 without_here : (id : ℤ) (n : StoredNode) (ns : List StoredNode) → int_eq n.id id ≡ true → without id (n ∷ ns) ≡ without id ns
 unfolding without
-without_here id n ns e = ap (λ (t : Bool). cond (not t) (n ∷ filter (λ x. not (int_eq x.id id)) ns) (filter (λ x. not (int_eq x.id id)) ns)) e
+without_here id n ns e = ap (λ (t : Bool). cond (not t) (n ∷ filter (λ x. not (int_eq x.id id)) ns) (filter (λ x. not (int_eq x.id id))
+    ns)) e
 
 without_past : (id : ℤ) (n : StoredNode) (ns : List StoredNode) → int_eq n.id id ≡ false → without id (n ∷ ns) ≡ n ∷ without id ns
 unfolding without
-without_past id n ns e = ap (λ (t : Bool). cond (not t) (n ∷ filter (λ x. not (int_eq x.id id)) ns) (filter (λ x. not (int_eq x.id id)) ns)) e
+without_past id n ns e = ap (λ (t : Bool). cond (not t) (n ∷ filter (λ x. not (int_eq x.id id)) ns) (filter (λ x. not (int_eq x.id id))
+    ns)) e
 
 without_nil : (id : ℤ) → without id [] ≡ []
 unfolding without
@@ -292,7 +307,8 @@ pub find_kept : (id k : ℤ) (ns : List StoredNode) → int_eq k id ≡ false �
 find_kept id k [] e = ap (find id) (without_nil k)
 find_kept id k (n ∷ ns) e = go (int_eq n.id k) refl (find_kept id k ns e) where
   go : (t : Bool) → int_eq n.id k ≡ t → find id (without k ns) ≡ find id ns → find id (without k (n ∷ ns)) ≡ find id (n ∷ ns)
-  go true h again = ap (find id) (without_here k n ns h) ∙ again ∙ sym (find_past id n ns (ap (λ (i : ℤ). int_eq i id) (same_id n.id k h) ∙ e))
+  go true h again = ap (find id) (without_here k n ns h) ∙ again
+      ∙ sym (find_past id n ns (ap (λ (i : ℤ). int_eq i id) (same_id n.id k h) ∙ e))
   go false h again = ap (find id) (without_past k n ns h) ∙ at (int_eq n.id id) refl where
     at : (t : Bool) → int_eq n.id id ≡ t → find id (n ∷ without k ns) ≡ find id (n ∷ ns)
     at true g = find_here id n (without k ns) (same_id n.id id g) ∙ sym (find_here id n ns (same_id n.id id g))
@@ -319,9 +335,11 @@ above_beyond j k (m ∷ ms) h f = (let x : k ≤ℤ m.id = f.0 in omega (arith, 
 pub ascends_append : (k : ℤ) (ns ms : List StoredNode) → Ascends ns → Under k ns → Ascends ms → From k ms → Ascends (ns ++ ms)
 ascends_append k [] ms a u b f = b
 ascends_append k (n ∷ ns) ms a u b f =
-    ascends_cons n (ns ++ ms) (above_append n.id ns ms (above_head n ns a) (above_beyond n.id k ms u.0 f)) (ascends_append k ns ms (ascends_tail n ns a) u.1 b f)
+    ascends_cons n (ns ++ ms) (above_append n.id ns ms (above_head n ns a) (above_beyond n.id k ms u.0 f))
+    (ascends_append k ns ms (ascends_tail n ns a) u.1 b f)
 
 -- an id that is not below such a number is not found
 pub find_under : (id k : ℤ) (ns : List StoredNode) → Under k ns → k ≤ℤ id → find id ns ≡ None
 find_under id k [] u h = find_nil id
-find_under id k (n ∷ ns) u h = find_past id n ns (below_apart n.id id (let x : n.id <ℤ k = u.0 in omega (arith, ints))) ∙ find_under id k ns u.1 h
+find_under id k (n ∷ ns) u h = find_past id n ns (below_apart n.id id (let x : n.id <ℤ k = u.0 in omega (arith, ints)))
+    ∙ find_under id k ns u.1 h

@@ -1,5 +1,6 @@
 -- What is written, by ascending id.
-use Rattle.std.proofs.Common.{◌≡◌, ℤ, ◌<ℤ◌, Bool, true, false, cond, [], ◌∷◌, All, Option, Some, None, Less, Equal, Greater, Ordering, int_cmp, int_eq, refl, sym, ap, subst, ◌∙◌}
+use Rattle.std.proofs.Common.{◌≡◌, ℤ, ◌<ℤ◌, Bool, true, false, cond, [], ◌∷◌, All, Option, Some, None, Less, Equal, Greater, Ordering}
+use Rattle.std.proofs.Common.{int_cmp, int_eq, refl, sym, ap, subst, ◌∙◌}
 use Rattle.std.specs.Cmp.{signed_Decides, int_ranked}
 use Rattle.std.specs.Ordering.{match_ordering}
 use Rattle.std.specs.List.{AllByRecursion}
@@ -62,10 +63,12 @@ written_holds P id (e ∷ es) o all h = go (int_eq id e.0) refl (written_holds P
   go false g again = again (sym (written_past id e es g) ∙ h)
 
 -- one more entry, or another value at its key
-pub All_insert : (P : Entry → Type 0) (k : ℤ) (v : Option StoredNode) (es : Written) → P (k, v) → All P es → All P (insert_entry int_cmp es k v)
+pub All_insert : (P : Entry → Type 0) (k : ℤ) (v : Option StoredNode) (es : Written) → P (k, v) → All P es
+    → All P (insert_entry int_cmp es k v)
 All_insert P k v [] p all = All-cons P (k, v) [] p all
 All_insert P k v (e ∷ es) p all = go (int_cmp k e.0) refl (All_insert P k v es p (All-tail P e es all)) where
-  go : (o : Ordering) → int_cmp k e.0 ≡ o → All P (insert_entry int_cmp es k v) → All P (match_ordering o ((k, v) ∷ e ∷ es) ((e.0, v) ∷ es) (e ∷ insert_entry int_cmp es k v))
+  go : (o : Ordering) → int_cmp k e.0 ≡ o → All P (insert_entry int_cmp es k v)
+      → All P (match_ordering o ((k, v) ∷ e ∷ es) ((e.0, v) ∷ es) (e ∷ insert_entry int_cmp es k v))
   go Less g again = All-cons P (k, v) (e ∷ es) p all
   go Equal g again = All-cons P (e.0, v) es (subst (λ i. P (i, v)) (int_ranked k e.0 Equal (sym g)) p) (All-tail P e es all)
   go Greater g again = All-cons P e (insert_entry int_cmp es k v) (All-head P e es all) again

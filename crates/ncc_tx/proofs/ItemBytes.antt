@@ -147,3 +147,8 @@ full_of {T} {E} (Err e) need room h = lt_of_not-le (λ le. let bad : IsOk {T = T
 pub roomy_of : {T E : Type 0} (r : Result T E) (need room : ℕ) → OnErr r (room < need) → need ≤ room → IsOk r
 roomy_of (Ok x) need room h le = refl
 roomy_of (Err e) need room h le = absurd (omega (arith, h, le))
+
+-- what the writing of one item, and of all, takes
+pub ruleset puts_one = (length_item, allowed_fits, allowed_short, item_put)
+
+pub ruleset puts_all = (one_put, all_put, begins_on, full_on)

@@ -91,3 +91,6 @@ pub allowed_more : (items : List Item) (i : ℕ) (x : Item) → i < length items
     IsTrue (entry_allowed x.entry) → AllAllowed (take i items) → AllAllowed (take (i + 1) items)
 allowed_more items i x lt is good all = All-more (λ (y : Item). IsTrue (entry_allowed y.entry)) items i x lt all
     (subst (λ (y : Item). IsTrue (entry_allowed y.entry)) is good)
+
+-- what the comparing of terms, item by item, takes
+pub ruleset parts = (parted_at, parted_end, same_more, same_front, all_same)

@@ -1,4 +1,4 @@
--- When two values are equal, as a test: kind by kind, and item by item in their order.
+-- When two values (PackStream version 1, "Data types") are equal, as a test: kind by kind, and item by item in their order.
 use Rattle.std.specs.Prelude.{ℕ, Bool, true, false, ◌&&◌, List, [], ◌∷◌}
 use Rattle.std.specs.Bool.{beq}
 use Rattle.std.specs.Ordering.{int_eq}

@@ -53,7 +53,7 @@ pub fn payload_len(change: &ChangeSet) -> u64
     items_len(change.items.as_slice()).saturating_add(17)
 }
 
-#[tactic(auto, using(crate::proofs::ItemBytes::length_item, crate::proofs::ItemBytes::allowed_fits, crate::proofs::ItemBytes::allowed_short, crate::proofs::ItemBytes::item_put))]
+#[tactic(auto, using(crate::proofs::ItemBytes::puts_one))]
 fn put_item(item: &Item, into: &mut Vec<u8>) -> Result<(), Memory>
     requires { IsTrue (entry_allowed item.now.entry) }
     ensures ok { OnOk result (into.new.items ≡ into.old.items ++ item_bytes item.now) }
@@ -67,7 +67,7 @@ fn put_item(item: &Item, into: &mut Vec<u8>) -> Result<(), Memory>
     put_entry(&item.entry, into)
 }
 
-#[tactic(auto, using(crate::proofs::ItemBytes::one_put, crate::proofs::ItemBytes::all_put, crate::proofs::ItemBytes::begins_on, crate::proofs::ItemBytes::full_on))]
+#[tactic(auto, using(crate::proofs::ItemBytes::puts_all))]
 fn put_items(items: &[Item], into: &mut Vec<u8>) -> Result<(), Memory>
     requires { AllAllowed items.now }
     ensures ok { OnOk result (into.new.items ≡ into.old.items ++ items_bytes items.now) }

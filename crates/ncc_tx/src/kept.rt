@@ -58,7 +58,7 @@ fn term_at(log: &[Item], place: u64) -> u64
 
 impl Saved {
     /// Says whether a member may keep this: a term below 2^62, a vote of at most 7, at most 2^24 items whose entries are
-    /// allowed, and terms that don't fall and are at most the term. It takes no memory.
+    /// allowed, and terms that don't fall and are at most the term. As `entry_fits` it answers the same without memory.
     pub fn may_be_kept(&self) -> bool
         ensures exact { IsTrue result ↔ MayKeep self.now }
     {
@@ -80,7 +80,8 @@ fn is_recorded(change: &ChangeSet) -> bool
 
 impl ChangeSet {
     /// Says whether this may stand in a record, whatever it follows: a term below 2^62, a vote of at most 7, terms of items
-    /// that don't fall and are at most its term, allowed entries, and a payload of fewer than 2^32 bytes. It takes no memory.
+    /// that don't fall and are at most its term, allowed entries, and a payload of fewer than 2^32 bytes. As `entry_fits` it
+    /// answers the same without memory.
     pub fn may_stand(&self) -> bool
         ensures exact { IsTrue result ↔ MayStand self.now }
     {
@@ -91,7 +92,8 @@ impl ChangeSet {
     }
 
     /// Says whether this may change what a member keeps: it may stand in a record, its term is at least the kept one, it
-    /// keeps no more items than there are, and from the last of them on the terms don't fall. It takes no memory.
+    /// keeps no more items than there are, and from the last of them on the terms don't fall. As `may_stand` it answers the same
+    /// without memory.
     pub fn may_follow(&self, saved: &Saved) -> bool
         ensures exact { IsTrue result ↔ MayFollow saved.now self.now }
     {
@@ -105,7 +107,7 @@ impl ChangeSet {
 
 /// How many items at the front of two logs have the same terms: the greatest such number. Where the logs are of one
 /// cluster these items are the same.
-#[tactic(auto, using(crate::proofs::Terms::parted_at, crate::proofs::Terms::parted_end, crate::proofs::Terms::same_more, crate::proofs::Terms::same_front, crate::proofs::Terms::all_same))]
+#[tactic(auto, using(crate::proofs::Terms::parts))]
 pub fn same_terms(items: &[Item], others: &[Item]) -> usize
     ensures most { SameTerms items.now others.now result }
 {

@@ -13,22 +13,17 @@ ghost use Rattle.ncc_tx.specs.Spelled.{call_value, calls_value, entry_fits, pair
 
 use crate::entry::Entry;
 use ncc_pack::{
-    Bytes, Dict, Memory, Rows, Text, Values, dict_fits_within, dict_len, encode_dict_within,
-    encode_list_head_within, encode_text_within, encode_values_within, fits_deeper, list_head_len,
-    text_fits, text_len, values_fit_within, values_len,
+    Bytes, Dict, MAX_DEPTH, MAX_SIZE, Memory, NULL, Rows, Text, Values, dict_fits_within, dict_len,
+    encode_dict_within, encode_list_head_within, encode_text_within, encode_values_within,
+    fits_deeper, list_head_len, text_fits, text_len, values_fit_within, values_len,
 };
 use ncc_store::{RowLists, Step, Steps};
-
-const MAX_SIZE: usize = 16_777_216;
 
 /// The greatest length in bytes of the spelling of an entry that may stand in a log.
 pub const MAX_ENTRY: u64 = 1_048_576;
 
-/// The marker of null, which a Noop is spelled as.
-const NULL: u8 = 0xC0;
-
 /// How many levels a step's parameters and a row have left: an entry nests each inside three lists.
-const LEVELS: u8 = 29;
+const LEVELS: u8 = MAX_DEPTH - 3;
 
 fn step_fits(step: &Step) -> bool
     ensures { result ≡ fits_within (call_value (call_of step.now)) 30 }
@@ -79,7 +74,7 @@ fn told_fits(told: &RowLists) -> bool
 }
 
 /// Says whether an entry has a spelling: a transaction has one list of rows for each step, and its parameters and rows
-/// fit, inside the three lists that hold them. It takes no memory.
+/// fit, inside the three lists that hold them. Where it gets no memory for many keys it goes on without, and answers the same.
 pub fn entry_fits(entry: &Entry) -> bool
     ensures exact { result ≡ entry_fits entry.now }
 {
@@ -148,7 +143,7 @@ pub fn entry_len(entry: &Entry) -> u64
     }
 }
 
-/// Says whether an entry may stand in a log: it fits, and its spelling has at most 1,048,576 bytes. It takes no memory.
+/// Says whether an entry may stand in a log: it fits, which `entry_fits` says, and its spelling has at most 1,048,576 bytes.
 #[tactic(auto, unfolding(crate::specs::Items::entry_allowed))]
 pub fn entry_allowed(entry: &Entry) -> bool
     ensures exact { result ≡ entry_allowed entry.now }

@@ -14,5 +14,6 @@ last_left f count before left after (Some x) e g h =
 
 pub returns-clause-some : goal.returns-clause-some
 returns-clause-some c =
-    last_left (λ m. m.items) c.args.count c.args.ready.now.items c.truncate.new.self.items c.pop_back.new.self.items c.pop_back.result c.truncate.ensures.items c.pop_back.ensures.items
+    last_left (λ m. m.items) c.args.count c.args.ready.now.items c.truncate.new.self.items c.pop_back.new.self.items c.pop_back.result
+    c.truncate.ensures.items c.pop_back.ensures.items
     (let e = c.args.ready.now.ok.0 in let l = c.len.ensures in omega arith)

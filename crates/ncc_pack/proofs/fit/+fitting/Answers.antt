@@ -7,7 +7,7 @@ pub list_fits-returns-then-not-value_fits : goal.list_fits-returns-then-not-valu
 list_fits-returns-then-not-value_fits t c =
     let lt : 0 < c.args.depth = omega arith in
     let none = one_fails (λ x. fits_within x (c.args.depth - 1)) c.args.values.now c.as_slice-value-items.result.now
-    c.loop-value.value-index c.value-item.result c.as_slice-value-items.ensures c.loop-value-test.true c.value-item.is
+    c.loop-value.value-index c.value-item.result c.as_slice-value-items.ensures.same c.loop-value-test.true c.value-item.is
     (sym c.value_fits.ensures ∙ c.if-not-value_fits.true) in
     sym (list_more c.args.values.now c.args.depth lt ∙ rw none (and_false _))
 
@@ -15,5 +15,5 @@ pub list_fits-returns : goal.list_fits-returns
 list_fits-returns t c =
     let lt : 0 < c.args.depth = omega arith in
     let all = all_pass (λ x. fits_within x (c.args.depth - 1)) c.args.values.now c.as_slice-value-items.result.now
-    c.loop-value.value-index c.as_slice-value-items.ensures c.loop-value-test.false c.loop-value.invariant in
-    sym (list_more c.args.values.now c.args.depth lt ∙ rw all (small_enough _ (omega (arith, c.len.ensures))))
+    c.loop-value.value-index c.as_slice-value-items.ensures.same c.loop-value-test.false c.loop-value.invariant in
+    sym (list_more c.args.values.now c.args.depth lt ∙ rw all (small_enough _ (omega (arith, c.len.ensures.length))))

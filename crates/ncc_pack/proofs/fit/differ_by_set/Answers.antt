@@ -4,7 +4,7 @@ use Rattle.ncc_pack.proofs.fit.differ_by_set.Goals as goal
 
 pub loop-pair-preserved : goal.loop-pair-preserved
 loop-pair-preserved c =
-    let is = c.as_str.ensures ∙ ap (λ (p : _ × _). p.0) c.pair-item.is in
+    let is = c.as_str.ensures.same ∙ ap (λ (p : _ × _). p.0) c.pair-item.is in
     let absent = not_in_set c.in_ok-insert.field-0 (has c.loop-pair.seen c.as_str.result.now) c.if-not-branch.false
     c.in_ok-insert.ensures.added in
     let new_key = rw is at (sym (c.loop-pair.invariant.1 c.as_str.result.now) ∙ absent) in (

@@ -4,5 +4,8 @@ use Rattle.ncc_pack.proofs.Lists.{with_front}
 use Rattle.ncc_pack.proofs.read.label_items.Given as goal
 
 abbrev pub invariant-loop : goal.invariant-loop
-invariant-loop l = with_front l.labels.items (items_at (label_at l.total) (l.count - l.counter) l.rest)
-    ≡ items_at (label_at l.total) l.count l.bytes
+invariant-loop l = record {
+  total : l.cursor.total ≡ l.fn.cursor.total;
+  read : with_front l.labels.items (items_at (label_at l.fn.cursor.total) (l.count - l.counter) l.cursor.rest.now)
+      ≡ items_at (label_at l.fn.cursor.total) l.count l.fn.cursor.rest.now;
+}

@@ -12,17 +12,17 @@ use Rattle.ncc_pack.proofs.size.+measuring.Goals as goal
 pub values_len-value_len-requires : goal.values_len-value_len-requires
 values_len-value_len-requires t c = (
   grind (arith, at_most),
-  item_fits _ _ _ _ c.as_slice-value-items.ensures c.loop-value-test.true
+  item_fits _ _ _ _ c.as_slice-value-items.ensures.same c.loop-value-test.true
       c.value-item.is c.requires,
 )
 
 pub dict_len-text_len-requires : goal.dict_len-text_len-requires
-dict_len-text_len-requires t c = (pair_parts _ _ _ _ c.as_slice-pair-items.ensures c.loop-pair-test.true c.pair-item.is c.requires).0
+dict_len-text_len-requires t c = (pair_parts _ _ _ _ c.as_slice-pair-items.ensures.same c.loop-pair-test.true c.pair-item.is c.requires).0
 
 pub dict_len-value_len-requires : goal.dict_len-value_len-requires
 dict_len-value_len-requires t c = (
   search (rules, at_most),
-  (pair_parts _ _ _ _ c.as_slice-pair-items.ensures c.loop-pair-test.true
+  (pair_parts _ _ _ _ c.as_slice-pair-items.ensures.same c.loop-pair-test.true
       c.pair-item.is c.requires).1,
 )
 

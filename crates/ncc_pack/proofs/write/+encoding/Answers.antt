@@ -14,13 +14,13 @@ use Rattle.ncc_pack.proofs.write.+encoding.Goals as goal
 
 pub put_values-put_value-requires : goal.put_values-put_value-requires
 put_values-put_value-requires t c =
-    let items = c.as_slice-value-items.ensures in (
+    let items = c.as_slice-value-items.ensures.same in (
       grind (arith, at_most),
       (
         item_fits _ _ _ _ items c.loop-value-test.true c.value-item.is c.requires.some,
         item_room c.args.values.now c.as_slice-value-items.result.now c.loop-value.value-index c.value-item.result c.len.result
             (vec_len c.args.into.now) (vec_len c.put_list_head.new.into) (vec_len c.loop-value.into) _ _ _
-            items c.loop-value-test.true c.value-item.is c.len.ensures c.requires.room c.put_list_head.ensures.len
+            items c.loop-value-test.true c.value-item.is c.len.ensures.length c.requires.room c.put_list_head.ensures.len
             c.put_list_head.ensures.capacity c.loop-value.invariant.1 c.loop-value.invariant.2,
       ),
     )
@@ -36,14 +36,14 @@ put_values-loop-value-preserved t c =
 -- ---- dictionaries
 
 pub put_dict-put_text-requires-clause-small : goal.put_dict-put_text-requires-clause-small
-put_dict-put_text-requires-clause-small t c = (pair_parts _ _ _ _ c.as_slice-pair-items.ensures c.loop-pair-test.true c.pair-item.is
+put_dict-put_text-requires-clause-small t c = (pair_parts _ _ _ _ c.as_slice-pair-items.ensures.same c.loop-pair-test.true c.pair-item.is
     c.requires.some).0
 
 pub put_dict-put_text-requires-clause-room : goal.put_dict-put_text-requires-clause-room
 put_dict-put_text-requires-clause-room t c =
     let room = pair_room c.args.pairs.now c.as_slice-pair-items.result.now c.loop-pair.pair-index c.pair-item.result c.len.result
     (vec_len c.args.into.now) (vec_len c.put_dict_head.new.into) (vec_len c.loop-pair.into) _ _ _
-    c.as_slice-pair-items.ensures c.loop-pair-test.true c.pair-item.is c.len.ensures c.requires.room c.put_dict_head.ensures.len
+    c.as_slice-pair-items.ensures.same c.loop-pair-test.true c.pair-item.is c.len.ensures.length c.requires.room c.put_dict_head.ensures.len
     c.put_dict_head.ensures.capacity c.loop-pair.invariant.1 c.loop-pair.invariant.2 in
     omega (arith, room)
 
@@ -51,11 +51,11 @@ pub put_dict-put_value-requires : goal.put_dict-put_value-requires
 put_dict-put_value-requires t c =
     let room = pair_room c.args.pairs.now c.as_slice-pair-items.result.now c.loop-pair.pair-index c.pair-item.result c.len.result
     (vec_len c.args.into.now) (vec_len c.put_dict_head.new.into) (vec_len c.loop-pair.into) _ _ _
-    c.as_slice-pair-items.ensures c.loop-pair-test.true c.pair-item.is c.len.ensures c.requires.room c.put_dict_head.ensures.len
+    c.as_slice-pair-items.ensures.same c.loop-pair-test.true c.pair-item.is c.len.ensures.length c.requires.room c.put_dict_head.ensures.len
     c.put_dict_head.ensures.capacity c.loop-pair.invariant.1 c.loop-pair.invariant.2 in (
       search (rules, at_most),
       (
-        (pair_parts _ _ _ _ c.as_slice-pair-items.ensures c.loop-pair-test.true c.pair-item.is c.requires.some).1,
+        (pair_parts _ _ _ _ c.as_slice-pair-items.ensures.same c.loop-pair-test.true c.pair-item.is c.requires.some).1,
         omega (arith, room, c.put_text.ensures.len, c.put_text.ensures.capacity),
       ),
     )

@@ -20,9 +20,9 @@ pub returns-in-len1 : goal.returns-in-len1
 returns-in-len1 c =
     let one : c.as_slice.result.now ≡ c.word-item.result ∷ [] =
     single c.as_slice.result.now c.word-item.result c.in-len1.len_at_least c.in-len1.len_below c.word-item.is in
-    let whole : c.args.words.now ≡ c.word-item.result ∷ [] = sym c.as_slice.ensures ∙ one in
+    let whole : c.args.words.now ≡ c.word-item.result ∷ [] = sym c.as_slice.ensures.same ∙ one in
     let told : (IsTrue c.eq.result → c.word-item.result ∷ [] ≡ run_words)
     × (c.word-item.result ∷ [] ≡ run_words → IsTrue c.eq.result) =
     tells c.eq.result c.word-item.result (told_text c.word-item.result (codes "run") c.eq.result
-    (subst (λ x. c.eq.result ≡ pointwise nat_eq x (codes "run")) c.as_str.ensures c.eq.ensures)) in
+    (subst (λ x. c.eq.result ≡ pointwise nat_eq x (codes "run")) c.as_str.ensures.same c.eq.ensures)) in
     (λ t. whole ∙ told.0 t, λ e. told.1 (sym whole ∙ e))

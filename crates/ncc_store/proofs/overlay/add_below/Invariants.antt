@@ -7,5 +7,6 @@ use Rattle.ncc_store.proofs.overlay.add_below.Given as goal
 
 abbrev pub invariant-loop-below : goal.invariant-loop-below
 invariant-loop-below l =
-    l.found.items ++ ids (filter (taken (option_copied l.label) (wanted_of l.wanted)) (seen_below l.written.entries (drop l.below-index l.nodes)))
+    l.found.items ++ ids (filter (taken (option_copied l.label) (wanted_of l.wanted)) (seen_below l.written.entries
+    (drop l.below-index l.nodes)))
     ≡ l.fn.found.items ++ ids (filter (taken (option_copied l.label) (wanted_of l.wanted)) (seen_below l.written.entries l.nodes))

@@ -6,8 +6,10 @@ use Rattle.ncc_store.proofs.Patterns.{misses, compares}
 use Rattle.ncc_store.proofs.overlay.has_value.Goals as goal
 
 pub returns-in-None-value_at : goal.returns-in-None-value_at
-returns-in-None-value_at c = misses _ _ _ (c.in-None-value_at.ensures ∙ ap (at_key _) c.as_slice.ensures) ∙ ap (λ w. has_value (wanted_of w) c.args.node.now) (sym c.in-Some.is)
+returns-in-None-value_at c = misses _ _ _ (c.in-None-value_at.ensures ∙ ap (at_key _) c.as_slice.ensures.same)
+    ∙ ap (λ w. has_value (wanted_of w) c.args.node.now) (sym c.in-Some.is)
 
 pub returns-in-Some-value_at : goal.returns-in-Some-value_at
 returns-in-Some-value_at c =
-    compares _ _ _ _ _ (c.in-Some-value_at.ensures ∙ ap (at_key _) c.as_slice.ensures) c.equals.ensures ∙ ap (λ w. has_value (wanted_of w) c.args.node.now) (sym c.in-Some.is)
+    compares _ _ _ _ _ (c.in-Some-value_at.ensures ∙ ap (at_key _) c.as_slice.ensures.same) c.equals.ensures
+    ∙ ap (λ w. has_value (wanted_of w) c.args.node.now) (sym c.in-Some.is)

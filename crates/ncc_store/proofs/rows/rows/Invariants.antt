@@ -9,5 +9,6 @@ abbrev pub invariant-loop-node : goal.invariant-loop-node
 invariant-loop-node l = record {
   few : l.count ≤ max_rows;
   short : l.bytes ≤ max_bytes;
-  same : with_front l.rows (rows l.params l.list l.count l.bytes (map option_copied (drop l.node-index l.nodes))) ≡ rows l.params l.list 0 0 (map option_copied l.nodes);
+  same : with_front l.rows (rows l.params l.list l.count l.bytes (map option_copied (drop l.node-index l.nodes)))
+      ≡ rows l.params l.list 0 0 (map option_copied l.nodes);
 }

@@ -10,4 +10,4 @@ returns-else-len c =
     let calls = rw c.in-Some-2.is at c.in_ok-calls.ensures in
     let told = rw c.in-Some-3.is at c.in_ok-told.ensures in
     differ c.args.value c.in-Some.front c.in-Some.back c.in-Some-2.calls c.in-Some-3.told c.in-Some.ensures calls told
-    (λ e. c.if-len.false (c.len.ensures ∙ e ∙ sym c.len-2.ensures))
+    (λ e. c.if-len.false (c.len.ensures.length ∙ e ∙ sym c.len-2.ensures.length))

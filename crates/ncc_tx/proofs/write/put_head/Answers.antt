@@ -9,4 +9,5 @@ pub returns-clause-full : goal.returns-clause-full
 returns-clause-full c =
     let into = c.args.into.now in
     on_err_weaker c.encode_list_head_within.result (λ small. omega (arith, small, into.ok.0))
-    (full_of c.encode_list_head_within.result (vec_len into + length (head lists c.args.len)) (vec_capacity into) c.encode_list_head_within.ensures.roomy)
+    (full_of c.encode_list_head_within.result (vec_len into + length (head lists c.args.len)) (vec_capacity into)
+    c.encode_list_head_within.ensures.roomy)

@@ -13,19 +13,19 @@ returns-in_err-put_head-clause-full c =
     any_error c.from_residual.result (vec_capacity c.args.into.now < length c.args.into.now.items + length
     (short (rows_value c.args.rows.now)))
     (full_head v.List c.args.rows.now c.args.rows.now refl c.len.result (vec_capacity c.args.into.now)
-    (length c.args.into.now.items) c.len.ensures c.in_err-put_head.ensures.full)
+    (length c.args.into.now.items) c.len.ensures.length c.in_err-put_head.ensures.full)
 
 pub put_values-requires : goal.put_values-requires
 put_values-requires c =
     whole_by c.fits_deeper.ensures.deeper (v.List c.row-item.result)
     (item_fits v.List c.args.rows.now 30 c.as_slice-row-items.result.now c.loop-row.row-index c.row-item.result
-    (omega arith) c.as_slice-row-items.ensures c.loop-row-test.true c.row-item.is c.requires)
+    (omega arith) c.as_slice-row-items.ensures.same c.loop-row-test.true c.row-item.is c.requires)
 
 pub returns-in_err-put_values-clause-full : goal.returns-in_err-put_values-clause-full
 returns-in_err-put_values-clause-full c =
     any_error c.from_residual-in_err-put_values.result (vec_capacity c.args.into.now < length c.args.into.now.items + length
     (short (rows_value c.args.rows.now)))
-    (full_item v.List c.args.rows.now c.as_slice-row-items.result.now c.as_slice-row-items.ensures c.loop-row.row-index
+    (full_item v.List c.args.rows.now c.as_slice-row-items.result.now c.as_slice-row-items.ensures.same c.loop-row.row-index
     c.row-item.result c.args.into.now.items c.loop-row.into.items (vec_capacity c.args.into.now) (vec_capacity c.loop-row.into)
     c.loop-row-test.true c.row-item.is c.loop-row.invariant.written c.loop-row.invariant.grows c.in_err-put_values.ensures.full)
 
@@ -41,10 +41,11 @@ pub returns-clause-ok : goal.returns-clause-ok
 returns-clause-ok c =
     c.loop-row.invariant.written
     ∙ ap (λ t. c.args.into.now.items ++ t)
-    (ends v.List c.args.rows.now c.as_slice-row-items.result.now c.loop-row.row-index c.as_slice-row-items.ensures
+    (ends v.List c.args.rows.now c.as_slice-row-items.result.now c.loop-row.row-index c.as_slice-row-items.ensures.same
     c.loop-row-test.false)
 
 pub returns-in_err-put_values-clause-err : goal.returns-in_err-put_values-clause-err
 returns-in_err-put_values-clause-err c =
     any_error c.from_residual-in_err-put_values.result (Begins c.args.into.now.items c.put_values.new.into.items)
-    (begins_on c.args.into.now.items c.loop-row.into.items c.put_values.new.into.items _ c.loop-row.invariant.written c.in_err-put_values.ensures.err)
+    (begins_on c.args.into.now.items c.loop-row.into.items c.put_values.new.into.items _ c.loop-row.invariant.written
+    c.in_err-put_values.ensures.err)

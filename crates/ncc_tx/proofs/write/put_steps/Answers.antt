@@ -12,20 +12,21 @@ pub returns-in_err-put_head-clause-full : goal.returns-in_err-put_head-clause-fu
 returns-in_err-put_head-clause-full c =
     any_error c.from_residual.result (vec_capacity c.args.into.now < length c.args.into.now.items + length
     (short (calls_value (map call_of c.args.steps.now))))
-    (rw (steps_are c.args.steps.now) (full_head step_value c.args.steps.now c.args.steps.now refl c.len.result (vec_capacity c.args.into.now)
-    (length c.args.into.now.items) c.len.ensures c.in_err-put_head.ensures.full))
+    (rw (steps_are c.args.steps.now) (full_head step_value c.args.steps.now c.args.steps.now refl c.len.result
+    (vec_capacity c.args.into.now)
+    (length c.args.into.now.items) c.len.ensures.length c.in_err-put_head.ensures.full))
 
 pub put_step-requires : goal.put_step-requires
 put_step-requires c =
     item_fits step_value c.args.steps.now 31 c.as_slice-step-items.result.now c.loop-step.step-index c.step-item.result
-    (omega arith) c.as_slice-step-items.ensures c.loop-step-test.true c.step-item.is (rw (← steps_are c.args.steps.now) c.requires)
+    (omega arith) c.as_slice-step-items.ensures.same c.loop-step-test.true c.step-item.is (rw (← steps_are c.args.steps.now) c.requires)
 
 pub returns-in_err-put_step-clause-full : goal.returns-in_err-put_step-clause-full
 returns-in_err-put_step-clause-full c =
     any_error c.from_residual-in_err-put_step.result (vec_capacity c.args.into.now < length c.args.into.now.items + length
     (short (calls_value (map call_of c.args.steps.now))))
     (rw (steps_are c.args.steps.now)
-    (full_item step_value c.args.steps.now c.as_slice-step-items.result.now c.as_slice-step-items.ensures c.loop-step.step-index
+    (full_item step_value c.args.steps.now c.as_slice-step-items.result.now c.as_slice-step-items.ensures.same c.loop-step.step-index
     c.step-item.result c.args.into.now.items c.loop-step.into.items (vec_capacity c.args.into.now)
     (vec_capacity c.loop-step.into) c.loop-step-test.true c.step-item.is c.loop-step.invariant.written
     c.loop-step.invariant.grows c.in_err-put_step.ensures.full))
@@ -42,10 +43,11 @@ pub returns-clause-ok : goal.returns-clause-ok
 returns-clause-ok c =
     rw (steps_are c.args.steps.now) (c.loop-step.invariant.written
     ∙ ap (λ t. c.args.into.now.items ++ t)
-    (ends step_value c.args.steps.now c.as_slice-step-items.result.now c.loop-step.step-index c.as_slice-step-items.ensures
+    (ends step_value c.args.steps.now c.as_slice-step-items.result.now c.loop-step.step-index c.as_slice-step-items.ensures.same
     c.loop-step-test.false))
 
 pub returns-in_err-put_step-clause-err : goal.returns-in_err-put_step-clause-err
 returns-in_err-put_step-clause-err c =
     any_error c.from_residual-in_err-put_step.result (Begins c.args.into.now.items c.put_step.new.into.items)
-    (begins_on c.args.into.now.items c.loop-step.into.items c.put_step.new.into.items _ c.loop-step.invariant.written c.in_err-put_step.ensures.err)
+    (begins_on c.args.into.now.items c.loop-step.into.items c.put_step.new.into.items _ c.loop-step.invariant.written
+    c.in_err-put_step.ensures.err)

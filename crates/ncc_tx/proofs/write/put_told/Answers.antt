@@ -11,18 +11,18 @@ returns-in_err-put_head-clause-full c =
     any_error c.from_residual.result (vec_capacity c.args.into.now < length c.args.into.now.items + length
     (short (told_value c.args.told.now)))
     (full_head rows_value c.args.told.now c.args.told.now refl c.len.result (vec_capacity c.args.into.now)
-    (length c.args.into.now.items) c.len.ensures c.in_err-put_head.ensures.full)
+    (length c.args.into.now.items) c.len.ensures.length c.in_err-put_head.ensures.full)
 
 pub put_rows-requires : goal.put_rows-requires
 put_rows-requires c =
     item_fits rows_value c.args.told.now 31 c.as_slice-rows-items.result.now c.loop-rows.rows-index c.rows-item.result
-    (omega arith) c.as_slice-rows-items.ensures c.loop-rows-test.true c.rows-item.is c.requires
+    (omega arith) c.as_slice-rows-items.ensures.same c.loop-rows-test.true c.rows-item.is c.requires
 
 pub returns-in_err-put_rows-clause-full : goal.returns-in_err-put_rows-clause-full
 returns-in_err-put_rows-clause-full c =
     any_error c.from_residual-in_err-put_rows.result (vec_capacity c.args.into.now < length c.args.into.now.items + length
     (short (told_value c.args.told.now)))
-    (full_item rows_value c.args.told.now c.as_slice-rows-items.result.now c.as_slice-rows-items.ensures c.loop-rows.rows-index
+    (full_item rows_value c.args.told.now c.as_slice-rows-items.result.now c.as_slice-rows-items.ensures.same c.loop-rows.rows-index
     c.rows-item.result c.args.into.now.items c.loop-rows.into.items (vec_capacity c.args.into.now) (vec_capacity c.loop-rows.into)
     c.loop-rows-test.true c.rows-item.is c.loop-rows.invariant.written c.loop-rows.invariant.grows c.in_err-put_rows.ensures.full)
 
@@ -38,10 +38,11 @@ pub returns-clause-ok : goal.returns-clause-ok
 returns-clause-ok c =
     c.loop-rows.invariant.written
     ∙ ap (λ t. c.args.into.now.items ++ t)
-    (ends rows_value c.args.told.now c.as_slice-rows-items.result.now c.loop-rows.rows-index c.as_slice-rows-items.ensures
+    (ends rows_value c.args.told.now c.as_slice-rows-items.result.now c.loop-rows.rows-index c.as_slice-rows-items.ensures.same
     c.loop-rows-test.false)
 
 pub returns-in_err-put_rows-clause-err : goal.returns-in_err-put_rows-clause-err
 returns-in_err-put_rows-clause-err c =
     any_error c.from_residual-in_err-put_rows.result (Begins c.args.into.now.items c.put_rows.new.into.items)
-    (begins_on c.args.into.now.items c.loop-rows.into.items c.put_rows.new.into.items _ c.loop-rows.invariant.written c.in_err-put_rows.ensures.err)
+    (begins_on c.args.into.now.items c.loop-rows.into.items c.put_rows.new.into.items _ c.loop-rows.invariant.written
+    c.in_err-put_rows.ensures.err)

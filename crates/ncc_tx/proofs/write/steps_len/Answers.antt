@@ -7,7 +7,7 @@ use Rattle.ncc_tx.proofs.write.steps_len.Goals as goal
 pub step_len-requires : goal.step_len-requires
 step_len-requires c =
     item_fits step_value c.args.steps.now 31 c.as_slice-step-items.result.now c.loop-step.step-index c.step-item.result
-    (omega arith) c.as_slice-step-items.ensures c.loop-step-test.true c.step-item.is (rw (← steps_are c.args.steps.now) c.requires)
+    (omega arith) c.as_slice-step-items.ensures.same c.loop-step-test.true c.step-item.is (rw (← steps_are c.args.steps.now) c.requires)
 
 pub loop-step-preserved : goal.loop-step-preserved
 loop-step-preserved c =
@@ -20,5 +20,5 @@ pub returns : goal.returns
 returns c =
     rw (steps_are c.args.steps.now) (c.loop-step.invariant
     ∙ ap (λ t. min (length t) greatest)
-    (ends step_value c.args.steps.now c.as_slice-step-items.result.now c.loop-step.step-index c.as_slice-step-items.ensures
+    (ends step_value c.args.steps.now c.as_slice-step-items.result.now c.loop-step.step-index c.as_slice-step-items.ensures.same
     c.loop-step-test.false))

@@ -7,7 +7,7 @@ use Rattle.ncc_tx.proofs.write.told_len.Goals as goal
 pub rows_len-requires : goal.rows_len-requires
 rows_len-requires c =
     item_fits rows_value c.args.told.now 31 c.as_slice-rows-items.result.now c.loop-rows.rows-index c.rows-item.result
-    (omega arith) c.as_slice-rows-items.ensures c.loop-rows-test.true c.rows-item.is c.requires
+    (omega arith) c.as_slice-rows-items.ensures.same c.loop-rows-test.true c.rows-item.is c.requires
 
 pub loop-rows-preserved : goal.loop-rows-preserved
 loop-rows-preserved c =
@@ -19,5 +19,5 @@ loop-rows-preserved c =
 pub returns : goal.returns
 returns c =
     c.loop-rows.invariant ∙ ap (λ t. min (length t) greatest)
-    (ends rows_value c.args.told.now c.as_slice-rows-items.result.now c.loop-rows.rows-index c.as_slice-rows-items.ensures
+    (ends rows_value c.args.told.now c.as_slice-rows-items.result.now c.loop-rows.rows-index c.as_slice-rows-items.ensures.same
     c.loop-rows-test.false)

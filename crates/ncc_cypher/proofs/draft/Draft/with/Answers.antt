@@ -9,4 +9,4 @@ pub invariant_of-result : goal.invariant_of-result
 invariant_of-result c =
     λ q.
     btree_set_updates_text _ c.self.inside.keys c.insert.new.self _ c.in_ok-insert.ensures.updates q
-    ∙ goes_along q (string_bytes c.in_ok-key.key) _ c.self.inside.pairs c.args.pair (sym c.as_str.ensures ∙ sym c.in_ok-key.ensures.ok) (c.self.invariant q) ∙ ap (has q) (sym c.in_ok-push.ensures.ok)
+    ∙ goes_along q (string_bytes c.in_ok-key.key) _ c.self.inside.pairs c.args.pair (sym c.as_str.ensures.same ∙ sym c.in_ok-key.ensures.ok) (c.self.invariant q) ∙ ap (has q) (sym c.in_ok-push.ensures.ok)

@@ -1,6 +1,6 @@
 use Rattle.std.proofs.Common.{◌≡◌, true, take}
-use Rattle.ncc_route.specs.Addresses.{texts_alone}
-use Rattle.ncc_route.proofs.members.are_texts.Given as goal
+use Rattle.ncc_pack.specs.Texts.{texts_alone}
+use Rattle.ncc_pack.proofs.value.Sequence+Value.texts_alone.Given as goal
 
 -- the values so far are texts
 abbrev pub invariant-loop-value : goal.invariant-loop-value
