@@ -12,7 +12,7 @@ use Rattle.ncc_replay.specs.Run.{applied_of, extended, lagging, longest}
 use Rattle.ncc_replay.specs.Cluster.{run_in, IsKept, Stores}
 use Rattle.ncc_replay.specs.declared.item.Item.{Item}
 use Rattle.ncc_replay.specs.declared.cluster.Member.{Member}
-use Rattle.ncc_replay.specs.declared.cluster.Cluster.{Cluster}
+use Rattle.ncc_replay.specs.declared.cluster.Cluster.TheInside.{Inside}
 use Rattle.ncc_replay.proofs.Kept.{applied_at, stores_at}
 use Rattle.ncc_replay.proofs.Proposing.{last_value_push, lists_begin}
 use Rattle.ncc_replay.proofs.Answering.{longest_stays}
@@ -63,7 +63,7 @@ leader_list history [] h f = absurd (omega arith)
 leader_list history (m ∷ ms) h f = ap (λ k. take k history) (f m refl) ∙ take-length history
 
 -- the lists after it, and the history
-pub caught_up : (c : Cluster) (member count : ℕ) (m n : Member) → IsKept c → member - 1 < length c.members.items →
+pub caught_up : (c : Inside) (member count : ℕ) (m n : Member) → IsKept c → member - 1 < length c.members.items →
     m ≡ get_or c.members.items (member - 1) m
     → n.at ≡ min (m.at + count) (length c.history.items)
     → (map (λ x. take x.at c.history.items) (slice_set c.members.items (member - 1) n) ≡ lagging (run_in c) member count)

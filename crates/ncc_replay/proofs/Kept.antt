@@ -1,15 +1,20 @@
 -- The state that the code keeps, as a state of the run.
 use Rattle.std.proofs.Common.{◌≡◌, ℕ, zero, suc, ◌-◌, ◌<◌, List, [], ◌∷◌, length, map, take, get_or, None, refl, ap, sym, ◌∙◌}
 use Rattle.std.proofs.Common.{arith, subst, length-take-le}
+use Rattle.std.proofs.lemmas.List.{length-map}
 use Rattle.std.specs.Prelude.{replicate}
 use Rattle.std.specs.List.{AllByRecursion}
 use Rattle.ncc_replay.specs.State.{last_value}
-use Rattle.ncc_replay.specs.Run.{applied_of, at_of}
+use Rattle.ncc_replay.specs.Run.{Run, applied_of, at_of}
 use Rattle.ncc_replay.specs.Cluster.{run_in, IsKept, Stores, IsNew, AreNew, HasMember}
 use Rattle.ncc_replay.specs.declared.item.Item.{Item}
 use Rattle.ncc_replay.specs.declared.cluster.Member.{Member}
-use Rattle.ncc_replay.specs.declared.cluster.Cluster.{Cluster}
+use Rattle.ncc_replay.specs.declared.cluster.Cluster.TheInside.{Inside}
 use Rattle.ncc_replay.proofs.Lists.{all_get, get_some}
+
+-- there are as many members as applied lists
+pub members_are : (c : Inside) (r : Run) → run_in c ≡ r → length c.members.items ≡ length r.applied
+members_are c r e = sym (length-map c.members.items (λ m. take m.at c.history.items)) ∙ ap (λ (x : Run). length x.applied) e
 
 list_of : (history : List Item) (ms : List Member) (k : ℕ) (m : Member) → k < length ms → m ≡ get_or ms k m →
     get_or (map (λ n. take n.at history) ms) k [] ≡ take m.at history
@@ -17,16 +22,16 @@ list_of history [] k m h e = absurd (omega arith)
 list_of history (x ∷ xs) zero m h e = ap (λ n. take n.at history) (sym e)
 list_of history (x ∷ xs) (suc k) m h e = list_of history xs k m (omega arith) e
 
-pub stores_at : (c : Cluster) → IsKept c → (k : ℕ) (m : Member) → k < length c.members.items → m ≡ get_or c.members.items k m →
+pub stores_at : (c : Inside) → IsKept c → (k : ℕ) (m : Member) → k < length c.members.items → m ≡ get_or c.members.items k m →
     Stores c.history.items m
 stores_at c kept k m h e = all_get (Stores c.history.items) c.members.items k m kept.stores (get_some c.members.items k m h e)
 
 -- the list of a member that is there
-pub applied_at : (c : Cluster) (member : ℕ) (m : Member) → member - 1 < length c.members.items →
+pub applied_at : (c : Inside) (member : ℕ) (m : Member) → member - 1 < length c.members.items →
     m ≡ get_or c.members.items (member - 1) m → applied_of (run_in c) member ≡ take m.at c.history.items
 applied_at c member m h e = list_of c.history.items c.members.items (member - 1) m h e
 
-pub at_is : (c : Cluster) → IsKept c → (member : ℕ) (m : Member) → member - 1 < length c.members.items →
+pub at_is : (c : Inside) → IsKept c → (member : ℕ) (m : Member) → member - 1 < length c.members.items →
     m ≡ get_or c.members.items (member - 1) m → m.at ≡ at_of (run_in c) member
 at_is c kept member m h e = sym (ap length (applied_at c member m h e)
     ∙ length-take-le m.at c.history.items (stores_at c kept (member - 1) m h e).within)
@@ -71,7 +76,7 @@ places_are history (m ∷ ms) h = ap (λ n. n ∷ map length (map (λ k. take k.
     ∙ ap (λ ns. m.at ∷ ns) (places_are history ms h.1)
 
 -- a cluster at its beginning is kept
-pub new_kept : (c : Cluster) (n : ℕ) → 0 < n → AreNew c.members.items n → c.history.items ≡ [] → c.live.items ≡ [] → IsKept c
+pub new_kept : (c : Inside) (n : ℕ) → 0 < n → AreNew c.members.items n → c.history.items ≡ [] → c.live.items ≡ [] → IsKept c
 new_kept c n h new e l = record {
   some = omega (arith, new.0);
   leads = λ m g. omega (arith, ap length e, (all_get IsNew c.members.items 0 m new.1 g).at);

@@ -110,3 +110,9 @@ pub get_some : {X : Type 0} (xs : List X) (k : ℕ) (x : X) → k < length xs �
 get_some [] k x h e = absurd (omega arith)
 get_some (y ∷ ys) zero x h e = ap Some (sym e)
 get_some (y ∷ ys) (suc k) x h e = get_some ys k x (omega arith) e
+
+-- there is an element at each index within
+pub get_there : {X : Type 0} (xs : List X) (k : ℕ) → k < length xs → (x : X) × (slice_get xs k ≡ Some x)
+get_there [] k h = absurd (omega arith)
+get_there (y ∷ ys) zero h = (y, refl)
+get_there (y ∷ ys) (suc k) h = get_there ys k (omega arith)

@@ -15,7 +15,7 @@ use Rattle.ncc_replay.specs.declared.item.Item.{Item}
 use Rattle.ncc_replay.specs.declared.conn.Stage.TheVariants.{Placing}
 use Rattle.ncc_replay.specs.declared.conn.Conn.{Conn}
 use Rattle.ncc_replay.specs.declared.cluster.Member.{Member}
-use Rattle.ncc_replay.specs.declared.cluster.Cluster.{Cluster}
+use Rattle.ncc_replay.specs.declared.cluster.Cluster.TheInside.{Inside}
 use Rattle.ncc_replay.proofs.Lists.{all_weaker}
 use Rattle.ncc_replay.proofs.Answering.{longest_first}
 
@@ -99,6 +99,25 @@ history_is history item ms h = longest_first history (history ++ (item ∷ [])) 
 pub cons_at : {X : Type 0} (xs : List X) (x : X) → 0 < length xs → x ≡ get_or xs 0 x → (ys : List X) × (xs ≡ x ∷ ys)
 cons_at [] x h e = absurd (omega arith)
 cons_at (y ∷ ys) x h e = (ys, ap (λ z. z ∷ ys) (sym e))
+
+-- member 1 before the others, and what one more entry makes of it
+pub record Leading (c : Inside) (item : Item) (first new : Member) : Type 0 where
+  pub others : List Member
+  pub members : c.members.items ≡ first ∷ others
+  pub stores : AllByRecursion (Stores c.history.items) (first ∷ others)
+  pub grown : Grown c.history.items item first new
+
+pub leading : (c : Inside) (item : Item) (first new : Member) → IsKept c → first ≡ get_or c.members.items 0 first → new.at ≡ first.at + 1
+    → ((q : List ℕ) → get_by_text new.store q ≡ cond (bytes_eq item.key q) (Some item.value) (get_by_text first.store q)) →
+    Leading c item first new
+leading c item first new kept e at state =
+    let rest : (ms : List Member) × (c.members.items ≡ first ∷ ms) = cons_at c.members.items first kept.some e in
+    record {
+      others = rest.0;
+      members = rest.1;
+      stores = subst (AllByRecursion (Stores c.history.items)) rest.1 kept.stores;
+      grown = record { was = kept.leads first (ap (λ (l : List Member). slice_get l 0) rest.1); at = at; state = state };
+    }
 
 -- two states are one where their parts are
 pub run_same : (r s : Run) → r.now ≡ s.now → r.wait ≡ s.wait → r.cores ≡ s.cores → r.applied ≡ s.applied → r.history ≡ s.history →
@@ -186,7 +205,7 @@ run_same r s e1 e2 e3 e4 e5 e6 e7 e8 =
     }) e8))))))
 
 -- the state after it is the proposal's
-pub proposed : (c d : Cluster) (item : Item) (first new : Member) (ms : List Member) (before : List Conn) (conn : Conn) (behind : List Conn)
+pub proposed : (c d : Inside) (item : Item) (first new : Member) (ms : List Member) (before : List Conn) (conn : Conn) (behind : List Conn)
     → c.members.items ≡ first ∷ ms → AllByRecursion (Stores c.history.items) (first ∷ ms) → Grown c.history.items item first new
     → d.clock ≡ c.clock → d.wait ≡ c.wait → d.cores ≡ c.cores → d.members.items ≡ new ∷ ms →
     d.history.items ≡ c.history.items ++ (item ∷ []) → d.opened.items ≡ c.opened.items
@@ -212,7 +231,7 @@ proposed c d item first new ms before conn behind members all grown e1 e2 e3 e4 
     run_same (run_in d) (proposes (run_in c) before conn behind item) e1 e2 e3 (grew ∙ sym proposes_lists) (e5 ∙ sym longest_is) e6 lives e8
 
 -- and it is kept
-pub proposed_kept : (c d : Cluster) (item : Item) (first new : Member) (ms : List Member)
+pub proposed_kept : (c d : Inside) (item : Item) (first new : Member) (ms : List Member)
     → c.members.items ≡ first ∷ ms → AllByRecursion (Stores c.history.items) (first ∷ ms) → Grown c.history.items item first new
     → d.members.items ≡ new ∷ ms → d.history.items ≡ c.history.items ++ (item ∷ []) →
     AllByRecursion (HasMember (length d.members.items)) d.live.items

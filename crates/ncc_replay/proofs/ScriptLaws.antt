@@ -8,7 +8,7 @@ use Rattle.ncc_replay.specs.Headline.{Headline}
 use Rattle.ncc_replay.specs.Report.{report_of, conn_lines, lines_of_places, place_lines}
 use Rattle.ncc_replay.specs.Script.{Script, IsScript, IsNoScript, MakeScript, RefuseLine, RefuseEvent, SayEvents, kept_lines}
 use Rattle.ncc_replay.specs.Script.{start_of, nobody}
-use Rattle.ncc_replay.specs.Replay.{ReadsAll, MayEnd, status_refused}
+use Rattle.ncc_replay.specs.Replay.{ReadsAll, MayEnd, status_of_script_error}
 use Rattle.ncc_replay.specs.declared.event.Event.{Event}
 use Rattle.ncc_replay.specs.declared.event.Setup.{Setup}
 use Rattle.ncc_replay.specs.declared.status.Cause.{Cause}
@@ -79,12 +79,12 @@ read_is old new text read e h = go new (subst (λ o. Consumes o new read) e h.co
 
 -- a script ends in its run, or in want of memory
 pub completes_error : (text : List ℕ) (s : Script) (error : ScriptError) → IsScript text s →
-    ((at : ℕ) (cause : Cause) → error ≡ Bad at cause → IsNoScript text at cause) → MayEnd (status_refused error) Done
+    ((at : ℕ) (cause : Cause) → error ≡ Bad at cause → IsNoScript text at cause) → MayEnd (status_of_script_error error) Done
 completes_error text s (Bad at cause) h b = absurd (never_both text s at cause h (b at cause refl))
 completes_error text s refusing.Memory h b = inr (inl refl)
 
 pub refuses_error : (text : List ℕ) (at : ℕ) (cause : Cause) (error : ScriptError) → IsNoScript text at cause →
-    ((bt : ℕ) (d : Cause) → error ≡ Bad bt d → IsNoScript text bt d) → MayEnd (status_refused error) (BadScript at cause)
+    ((bt : ℕ) (d : Cause) → error ≡ Bad bt d → IsNoScript text bt d) → MayEnd (status_of_script_error error) (BadScript at cause)
 refuses_error text at cause (Bad bt d) h b =
     let same : (bt ≡ at) × (d ≡ cause) = one_refusal text bt at d cause (b bt d refl) h in
     inl (ap (λ n. BadScript n d) same.0 ∙ ap (λ k. BadScript at k) same.1)

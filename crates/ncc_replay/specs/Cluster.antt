@@ -7,9 +7,10 @@ use Rattle.ncc_replay.specs.Run.{Run}
 use Rattle.ncc_replay.specs.declared.item.Item.{Item}
 use Rattle.ncc_replay.specs.declared.conn.Conn.{Conn}
 use Rattle.ncc_replay.specs.declared.cluster.Member.{Member}
-use Rattle.ncc_replay.specs.declared.cluster.Cluster.{Cluster}
+use Rattle.ncc_replay.specs.declared.cluster.Cluster.TheInside.{Inside}
 
-abbrev pub run_in : Cluster → Run
+-- the run that a `Cluster` shows
+abbrev pub run_in : Inside → Run
 run_in c = record {
   now = c.clock;
   wait = c.wait;
@@ -26,12 +27,16 @@ pub record Stores (history : List Item) (m : Member) : Type 0 where
   pub within : m.at ≤ length history
   pub state : (key : List ℕ) → get_by_text m.store key ≡ last_value (take m.at history) key
 
+-- two that have applied as much, and whose stores give each key one value
+abbrev pub HasSame : Member → Member → Type 0
+HasSame m n = (n.at ≡ m.at) × ((key : List ℕ) → get_by_text n.store key ≡ get_by_text m.store key)
+
 -- the connection is one to a member that is there
 abbrev pub HasMember : ℕ → Conn → Type 0
 HasMember members c = (1 ≤ c.member) × (c.member ≤ members)
 
--- what the state keeps
-pub record IsKept (c : Cluster) : Type 0 where
+-- the invariant of a `Cluster`
+pub record IsKept (c : Inside) : Type 0 where
   pub some : 0 < length c.members.items
   -- member 1 has applied the whole list
   pub leads : (m : Member) → slice_get c.members.items 0 ≡ Some m → m.at ≡ length c.history.items

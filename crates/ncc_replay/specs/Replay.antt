@@ -53,15 +53,15 @@ pub record IsGiven (words : List (List ℕ)) (left : Option (List ℕ)) (text : 
   pub holds : left ≡ Some text
 
 -- how a replay ends whose input is not read
-abbrev pub status_unread : ReadError → Status
-status_unread Fault = ReadFault
-status_unread TooLong = Limit LimitScript
-status_unread reading.Memory = Memory
+abbrev pub status_of_read_error : ReadError → Status
+status_of_read_error Fault = ReadFault
+status_of_read_error TooLong = Limit LimitScript
+status_of_read_error reading.Memory = Memory
 
 -- how a replay ends whose input gives no run
-abbrev pub status_refused : ScriptError → Status
-status_refused (Bad line cause) = BadScript line cause
-status_refused refusing.Memory = Memory
+abbrev pub status_of_script_error : ScriptError → Status
+status_of_script_error (Bad line cause) = BadScript line cause
+status_of_script_error refusing.Memory = Memory
 
 -- it ends so, unless source or sink fail or memory runs out
 abbrev pub MayEnd : Status → Status → Type 0

@@ -1,47 +1,77 @@
 //! The state of a run, and its steps.
 
-ghost use Rattle.std.specs.Prelude.{◌≡◌, ℕ, ◌+◌, ◌-◌, ◌<◌, ◌≤◌, ◌++◌, ◌∷◌, [], length, take, drop, position, slice_get, IfOk, OnOk};
-ghost use Rattle.std.specs.Prelude.{IfSome, Some, None, List, suc, true, false, if◌then◌else◌};
+ghost use Rattle.std.specs.Prelude.{◌≡◌, ℕ, ◌+◌, ◌-◌, ◌<◌, ◌≤◌, ◌++◌, length, take, drop, position, slice_get, IfOk, OnOk};
+ghost use Rattle.std.specs.Prelude.{OnErr, Some, None, List, suc, true, false, map, if◌then◌else◌};
 ghost use Rattle.std.specs.Str.{bytes_eq};
 ghost use Rattle.std.specs.Prelude.{◌^◌, min};
 ghost use Rattle.std.specs.List.{AllByRecursion};
 ghost use Rattle.std.specs.BTreeMap.{get_by_text};
 ghost use Rattle.ncc_replay.specs.Run.{next};
-ghost use Rattle.ncc_replay.specs.Cluster.{HasMember, Stores};
+ghost use Rattle.ncc_replay.specs.Report.{lines_of_places};
+ghost use Rattle.ncc_replay.specs.Cluster.{AreNew, HasMember, HasSame, Stores};
 
 use crate::conn::{Command, Conn, Stage};
-use crate::event::Event;
+use crate::event::{Event, Setup};
 use crate::fact::{Fact, Told, WorldError};
 use crate::item::Item;
 use crate::reply::Reply;
+use crate::report::{append_conns, append_history, append_member, append_told};
 use ncc_bookmark::{Bookmark, need};
-use ncc_pack::Text;
+use ncc_pack::{Bytes, Text};
 use ncc_wait::{Outcome, outcome};
 use std::alloc::{AllocError, Global};
 use std::collections::BTreeMap;
+use std::marker::Model;
 
 /// A member: how many entries it has applied, and the last value of each key in them.
 #[derive(Drop)]
-pub struct Member {
-    pub at: u64,
-    pub store: BTreeMap<String, Text>,
+struct Member {
+    at: u64,
+    store: BTreeMap<String, Text>,
 }
 
-/// The state of a run.
+/// The state of a run. A contract sees the run. A call that found no memory may leave it within an event.
 #[derive(Drop)]
 pub struct Cluster {
-    pub clock: u64,
-    pub wait: u64,
-    pub cores: u8,
-    pub members: Vec<Member>,
-    pub history: Vec<Item>,
-    pub opened: Vec<u8>,
-    pub live: Vec<Conn>,
-    pub told: Vec<Told>,
+    clock: u64,
+    wait: u64,
+    cores: u8,
+    members: Vec<Member>,
+    history: Vec<Item>,
+    opened: Vec<u8>,
+    live: Vec<Conn>,
+    told: Vec<Told>,
 }
 
-/// Gives a key a value.
-pub fn set_value(
+impl Model for Cluster {
+    ghost use Rattle.ncc_replay.specs.Run.{Run};
+
+    ghost Value = { Run };
+
+    ghost use Rattle.ncc_replay.specs.Cluster.{run_in, IsKept};
+
+    ghost view = { run_in };
+
+    ghost invariant = { IsKept };
+}
+
+// The members at the beginning: nobody has applied an entry.
+fn members_of(alloc: Global, count: usize) -> Result<Vec<Member>, AllocError>
+    ensures new { IfOk result (λ v. AreNew v.items count) }
+{
+    let mut members = Vec::new(alloc);
+    for index in 0..count {
+        let _member = index;
+        members.push(Member {
+            at: 0,
+            store: BTreeMap::new(alloc),
+        })?;
+    }
+    Ok(members)
+}
+
+// Gives a key a value.
+fn set_value(
     alloc: Global,
     store: &mut BTreeMap<String, Text>,
     key: &Text,
@@ -49,10 +79,22 @@ pub fn set_value(
 ) -> Result<(), AllocError>
     ensures sets { OnOk result ((q : List ℕ) →
         get_by_text store.new q ≡ (if bytes_eq key.now q then Some value.now else get_by_text store.old q)) }
+    ensures stays { OnErr result ((q : List ℕ) → get_by_text store.new q ≡ get_by_text store.old q) }
 {
     let name = String::from_str(alloc, key.as_str())?;
     let value = value.copy()?;
     store.insert(name, value)?;
+    Ok(())
+}
+
+// The lines of the members.
+#[tactic(auto, using(std::proofs::lemmas::List::append_assoc), unfolding(crate::specs::Report::lines_of_places))]
+fn append_members(cores: u8, members: &[Member], into: &mut Bytes) -> Result<(), AllocError>
+    ensures appended { OnOk result (into.new ≡ into.old ++ lines_of_places cores 1 (map (λ m. m.at) members.now)) }
+{
+    for (index, member) in members.iter().enumerate() {
+        append_member(cores, index as u64 + 1, member.at, into)?;
+    }
     Ok(())
 }
 
@@ -77,13 +119,14 @@ fn apply_item(alloc: Global, member: &mut Member, item: &Item) -> Result<(), All
     ensures at { OnOk result (member.new.at ≡ member.old.at + 1) }
     ensures state { OnOk result ((q : List ℕ) →
         get_by_text member.new.store q ≡ (if bytes_eq item.now.key q then Some item.now.value else get_by_text member.old.store q)) }
+    ensures stays { OnErr result (HasSame member.old member.new) }
 {
     set_value(alloc, &mut member.store, &item.key, &item.value)?;
     member.at += 1;
     Ok(())
 }
 
-// A member applies the entries of the history up to this place.
+// A member applies the entries of the history up to this place, or as many of them as it has memory for.
 fn catch_up_to(
     alloc: Global,
     member: &mut Member,
@@ -93,7 +136,7 @@ fn catch_up_to(
     requires stores { Stores history.now member.old }
     requires further { (member.old.at ≤ goal) × (goal ≤ length history.now) }
     ensures at { OnOk result (member.new.at ≡ goal) }
-    ensures stores { OnOk result (Stores history.now member.new) }
+    ensures stores { Stores history.now member.new }
 {
     while member.at < goal {
         apply_item(alloc, member, &history[member.at as usize])?;
@@ -110,7 +153,7 @@ fn catch_up(
 ) -> Result<(), AllocError>
     requires { Stores history.now member.old }
     ensures at { OnOk result (member.new.at ≡ min (member.old.at + count) (length history.now)) }
-    ensures stores { OnOk result (Stores history.now member.new) }
+    ensures stores { Stores history.now member.new }
 {
     let goal = member.at.saturating_add(count).min(history.len() as u64);
     catch_up_to(alloc, member, history, goal)
@@ -118,24 +161,66 @@ fn catch_up(
 
 impl Cluster {
     ghost use Rattle.ncc_replay.specs.State.{last_value};
-    ghost use Rattle.ncc_replay.specs.Run.{acts, applied_of, at_of, reply, replies, runs, leaves, turn, tells, proposes, settled};
-    ghost use Rattle.ncc_replay.specs.Run.{opens, lagging};
-    ghost use Rattle.ncc_replay.specs.Cluster.{run_in, IsKept, HasMember, Stores};
+    ghost use Rattle.ncc_replay.specs.Run.{acts, applied_of, at_of, reply, replies, runs, leaves};
+    ghost use Rattle.ncc_replay.specs.Report.{report_of};
+    ghost use Rattle.ncc_replay.specs.Script.{start_of};
+    ghost use Rattle.ncc_replay.specs.Cluster.{HasMember};
 
-    /// How many entries a member has applied.
-    pub fn at(&self, member: u8) -> u64
-        requires kept { IsKept self.now }
-        requires there { (1 ≤ member) × (member ≤ length self.now.members.items) }
-        ensures place { result ≡ at_of (run_in self.now) member }
+    /// A cluster at the beginning of its run.
+    pub fn new(alloc: Global, setup: &Setup) -> Result<Cluster, AllocError>
+        requires some { 1 ≤ setup.now.cores }
+        ensures start { IfOk result (λ c. c ≡ start_of setup.now) }
+    {
+        let members = members_of(alloc, setup.cores as usize + setup.replicas as usize)?;
+        Ok(Cluster {
+            clock: 0,
+            wait: setup.wait,
+            cores: setup.cores,
+            members,
+            history: Vec::new(alloc),
+            opened: Vec::new(alloc),
+            live: Vec::new(alloc),
+            told: Vec::new(alloc),
+        })
+    }
+
+    /// Appends the report of the run.
+    pub fn report(&self, alloc: Global, into: &mut Bytes) -> Result<(), AllocError>
+        ensures appended { OnOk result (into.new ≡ into.old ++ report_of self.now) }
+    {
+        into.extend(b"ncc-report 1\n")?;
+        append_told(self.told.as_slice(), into)?;
+        append_conns(alloc, self.opened.as_slice(), self.live.as_slice(), into)?;
+        append_members(self.cores, self.members.as_slice(), into)?;
+        append_history(self.history.as_slice(), into)
+    }
+
+    // The moment that the clock shows.
+    fn clock(&self) -> u64
+        ensures clock { result ≡ self.now.now }
+    {
+        self.clock
+    }
+
+    // How many members there are.
+    fn count(&self) -> usize
+        ensures count { result ≡ length self.now.applied }
+    {
+        self.members.len()
+    }
+
+    // How many entries a member has applied.
+    fn at(&self, member: u8) -> u64
+        requires there { (1 ≤ member) × (member ≤ length self.now.applied) }
+        ensures place { result ≡ at_of self.now member }
     {
         self.members[member as usize - 1].at
     }
 
-    /// The value of a key at a member.
+    // The value of a key at a member.
     fn value(&self, member: u8, key: &Text) -> Result<Option<Text>, AllocError>
-        requires kept { IsKept self.now }
-        requires there { (1 ≤ member) × (member ≤ length self.now.members.items) }
-        ensures { IfOk result (λ rows. rows ≡ last_value (applied_of (run_in self.now) member) key.now) }
+        requires there { (1 ≤ member) × (member ≤ length self.now.applied) }
+        ensures value { IfOk result (λ rows. rows ≡ last_value (applied_of self.now member) key.now) }
     {
         match self.members[member as usize - 1].store.get(key.as_str()) {
             Some(value) => Ok(Some(value.copy()?)),
@@ -143,15 +228,14 @@ impl Cluster {
         }
     }
 
-    /// Says whether the question of a connection can be answered now, or its entry proposed.
+    // Says whether the question of a connection can be answered now, or its entry proposed.
     fn acts(&self, conn: &Conn) -> bool
-        requires kept { IsKept self.now }
-        requires there { HasMember (length self.now.members.items) conn.now }
-        ensures { result ≡ acts (run_in self.now) conn.now }
+        requires there { HasMember (length self.now.applied) conn.now }
+        ensures acts { result ≡ acts self.now conn.now }
     {
         match conn.stage {
             Stage::Enter => {
-                outcome(self.at(conn.member), conn.need, self.clock, conn.deadline)
+                outcome(self.at(conn.member), conn.need, self.clock(), conn.deadline)
                     != Outcome::NotYet
             }
             Stage::Run => true,
@@ -160,10 +244,9 @@ impl Cluster {
         }
     }
 
-    /// The first connection that can be answered now.
+    // The first connection that can be answered now.
     fn first_acting(&self) -> Option<usize>
-        requires kept { IsKept self.now }
-        ensures { result ≡ position (acts (run_in self.now)) self.now.live.items }
+        ensures first { result ≡ position (acts self.now) self.now.live }
     {
         for (index, conn) in self.live.iter().enumerate() {
             if self.acts(conn) {
@@ -175,9 +258,8 @@ impl Cluster {
 
     // The answer to the question for the rows.
     fn rows(&self, conn: &Conn) -> Result<Reply, AllocError>
-        requires kept { IsKept self.now }
-        requires there { HasMember (length self.now.members.items) conn.now }
-        ensures { IfOk result (λ r. r ≡ runs (run_in self.now) conn.now conn.now.command) }
+        requires there { HasMember (length self.now.applied) conn.now }
+        ensures reply { IfOk result (λ r. r ≡ runs self.now conn.now conn.now.command) }
     {
         let at = self.at(conn.member);
         let next = Some(Stage::Leave);
@@ -207,9 +289,8 @@ impl Cluster {
 
     // The answer to the end of a transaction.
     fn leave(&self, conn: &Conn) -> Result<Reply, AllocError>
-        requires kept { IsKept self.now }
-        requires there { HasMember (length self.now.members.items) conn.now }
-        ensures { IfOk result (λ r. r ≡ leaves (run_in self.now) conn.now conn.now.command) }
+        requires there { HasMember (length self.now.applied) conn.now }
+        ensures reply { IfOk result (λ r. r ≡ leaves self.now conn.now conn.now.command) }
     {
         match &conn.command {
             Command::Get { .. } => Ok(Reply::Tells {
@@ -230,12 +311,11 @@ impl Cluster {
 
     // The answer to the question whether a connection may enter.
     fn enter(&self, conn: &Conn) -> Reply
-        requires kept { IsKept self.now }
-        requires there { HasMember (length self.now.members.items) conn.now }
-        ensures { result ≡ replies (run_in self.now) conn.now Stage.Enter }
+        requires there { HasMember (length self.now.applied) conn.now }
+        ensures reply { result ≡ replies self.now conn.now Stage.Enter }
     {
         let at = self.at(conn.member);
-        match outcome(at, conn.need, self.clock, conn.deadline) {
+        match outcome(at, conn.need, self.clock(), conn.deadline) {
             Outcome::Ready => Reply::Tells {
                 fact: Fact::Entered { at },
                 next: Some(Stage::Run),
@@ -245,18 +325,17 @@ impl Cluster {
                 fact: Fact::Late {
                     need: conn.need,
                     at,
-                    now: self.clock,
+                    now: self.clock(),
                 },
                 next: None,
             },
         }
     }
 
-    /// What its member does with the question of a connection now.
+    // What its member does with the question of a connection now.
     fn reply(&self, conn: &Conn) -> Result<Reply, AllocError>
-        requires kept { IsKept self.now }
-        requires there { HasMember (length self.now.members.items) conn.now }
-        ensures { IfOk result (λ r. r ≡ reply (run_in self.now) conn.now) }
+        requires there { HasMember (length self.now.applied) conn.now }
+        ensures reply { IfOk result (λ r. r ≡ reply self.now conn.now) }
     {
         match conn.stage {
             Stage::Enter => Ok(self.enter(conn)),
@@ -274,11 +353,18 @@ impl Cluster {
             }
         }
     }
+
+    // What its member does with the question of the connection at an index now.
+    fn reply_at(&self, index: usize) -> Result<Reply, AllocError>
+        requires there { index < length self.now.live }
+        ensures reply { (c : Conn) → slice_get self.now.live index ≡ Some c → IfOk result (λ r. r ≡ reply self.now c) }
+    {
+        self.reply(&self.live[index])
+    }
 }
 
 impl Cluster {
-    ghost use Rattle.ncc_replay.specs.Run.{acts, applied_of, at_of, reply, turn, tells, proposes, settled, opens, steps, happens};
-    ghost use Rattle.ncc_replay.specs.Cluster.{run_in, IsKept, HasMember, Stores};
+    ghost use Rattle.ncc_replay.specs.Run.{turn, tells, proposes, settled, opens, steps, happens};
     ghost use Rattle.ncc_replay.specs.Script.{refusal, is_member};
 
     // Tells the connection at an index a fact, and gives it its next question.
@@ -289,12 +375,9 @@ impl Cluster {
         fact: Fact,
         next: Option<Stage>,
     ) -> Result<(), AllocError>
-        requires kept { IsKept self.old }
-        requires there { index < length self.old.live.items }
-        ensures ok { OnOk result ((c : Conn) → slice_get self.old.live.items index ≡ Some c →
-            run_in self.new ≡ tells line (run_in self.old) (take index self.old.live.items) c
-            (drop (suc index) self.old.live.items) fact next) }
-        ensures kept { OnOk result (IsKept self.new) }
+        requires there { index < length self.old.live }
+        ensures ok { OnOk result ((c : Conn) → slice_get self.old.live index ≡ Some c →
+            self.new ≡ tells line self.old (take index self.old.live) c (drop (suc index) self.old.live) fact next) }
     {
         let conn = self.live[index].number;
         self.told.push(Told { line, conn, fact })?;
@@ -304,30 +387,27 @@ impl Cluster {
 
     // Member 1 appends an entry of the connection at an index, and applies it at once.
     fn propose(&mut self, alloc: Global, index: usize, item: Item) -> Result<(), AllocError>
-        requires kept { IsKept self.old }
-        requires there { index < length self.old.live.items }
-        ensures ok { OnOk result ((c : Conn) → slice_get self.old.live.items index ≡ Some c →
-            run_in self.new ≡ proposes (run_in self.old) (take index self.old.live.items) c (drop (suc index) self.old.live.items) item) }
-        ensures kept { OnOk result (IsKept self.new) }
+        requires there { index < length self.old.live }
+        ensures ok { OnOk result ((c : Conn) → slice_get self.old.live index ≡ Some c →
+            self.new ≡ proposes self.old (take index self.old.live) c (drop (suc index) self.old.live) item) }
     {
         let place = self.history.len() as u64 + 1;
+        self.history.reserve(1)?;
         apply_item(alloc, &mut self.members[0], &item)?;
-        self.history.push(item)?;
+        self.history.push_reserved(item);
         move_conn(&mut self.live, index, Some(Stage::Placing { place }));
         Ok(())
     }
 
     // One turn: true where a connection was answered, or its entry proposed.
     fn turn(&mut self, alloc: Global, line: u64) -> Result<bool, AllocError>
-        requires kept { IsKept self.old }
-        ensures made { IfOk result (λ b. b ≡ true → turn line (run_in self.old) ≡ Some (run_in self.new)) }
-        ensures none { IfOk result (λ b. b ≡ false → (turn line (run_in self.old) ≡ None) × (run_in self.new ≡ run_in self.old)) }
-        ensures kept { OnOk result (IsKept self.new) }
+        ensures made { IfOk result (λ b. b ≡ true → turn line self.old ≡ Some self.new) }
+        ensures none { IfOk result (λ b. b ≡ false → (turn line self.old ≡ None) × (self.new ≡ self.old)) }
     {
         let Some(index) = self.first_acting() else {
             return Ok(false);
         };
-        match self.reply(&self.live[index])? {
+        match self.reply_at(index)? {
             Reply::Waits => Ok(false),
             Reply::Tells { fact, next } => {
                 self.tell(line, index, fact, next)?;
@@ -340,27 +420,23 @@ impl Cluster {
         }
     }
 
-    /// Answers whoever can be answered, the lowest-numbered connection first, until nobody can.
-    pub fn settle(&mut self, alloc: Global, line: u64) -> Result<(), AllocError>
-        requires kept { IsKept self.old }
-        ensures ok { OnOk result (run_in self.new ≡ settled line (run_in self.old)) }
-        ensures kept { OnOk result (IsKept self.new) }
+    // Answers whoever can be answered, the lowest-numbered connection first, until nobody can.
+    fn settle(&mut self, alloc: Global, line: u64) -> Result<(), AllocError>
+        ensures ok { OnOk result (self.new ≡ settled line self.old) }
     {
         'turns: while self.turn(alloc, line)? {}
         Ok(())
     }
 
-    /// A client connects to a member and sends its request.
-    pub fn open(
+    // A client connects to a member and sends its request.
+    fn open(
         &mut self,
         member: u8,
         command: Command,
         bookmarks: &[Bookmark],
     ) -> Result<(), AllocError>
-        requires kept { IsKept self.old }
-        requires there { (1 ≤ member) × (member ≤ length self.old.members.items) }
-        ensures ok { OnOk result (run_in self.new ≡ opens (run_in self.old) member command bookmarks.now) }
-        ensures kept { OnOk result (IsKept self.new) }
+        requires there { (1 ≤ member) × (member ≤ length self.old.applied) }
+        ensures ok { OnOk result (self.new ≡ opens self.old member command bookmarks.now) }
     {
         let number = self.opened.len() as u64 + 1;
         let deadline = self.clock.saturating_add(self.wait);
@@ -376,12 +452,10 @@ impl Cluster {
         Ok(())
     }
 
-    /// A member that lags applies up to so many further entries of the list.
-    pub fn apply(&mut self, alloc: Global, member: u8, count: u64) -> Result<(), AllocError>
-        requires kept { IsKept self.old }
-        requires there { (2 ≤ member) × (member ≤ length self.old.members.items) }
-        ensures ok { OnOk result (run_in self.new ≡ steps (Event.Apply member count) (run_in self.old)) }
-        ensures kept { OnOk result (IsKept self.new) }
+    // A member that lags applies up to so many further entries of the list.
+    fn apply(&mut self, alloc: Global, member: u8, count: u64) -> Result<(), AllocError>
+        requires there { (2 ≤ member) × (member ≤ length self.old.applied) }
+        ensures ok { OnOk result (self.new ≡ steps (Event.Apply member count) self.old) }
     {
         let index = member as usize - 1;
         catch_up(
@@ -389,17 +463,16 @@ impl Cluster {
             &mut self.members[index],
             self.history.as_slice(),
             count,
-        )?;
-        Ok(())
+        )
     }
 
     /// Why the run refuses an event, if it does.
     pub fn refusal(&self, event: &Event) -> Option<WorldError>
-        ensures exact { result ≡ refusal (run_in self.now) event.now }
+        ensures exact { result ≡ refusal self.now event.now }
     {
         match event {
             Event::Time { to } => {
-                if *to < self.clock {
+                if *to < self.clock() {
                     Some(WorldError::BackInTime)
                 } else {
                     None
@@ -408,7 +481,7 @@ impl Cluster {
             Event::Put { member, .. } => self.no_member(*member),
             Event::Get { member, .. } => self.no_member(*member),
             Event::Apply { member, .. } => {
-                if *member == 1 && !self.members.is_empty() {
+                if *member == 1 && self.count() > 0 {
                     Some(WorldError::WrongRole)
                 } else {
                     self.no_member(*member)
@@ -419,9 +492,9 @@ impl Cluster {
 
     // There is no such member.
     fn no_member(&self, member: u8) -> Option<WorldError>
-        ensures { result ≡ (if is_member (run_in self.now) member then None else Some WorldError.NoMember) }
+        ensures refusal { result ≡ (if is_member self.now member then None else Some WorldError.NoMember) }
     {
-        if 1 <= member && member as usize <= self.members.len() {
+        if 1 <= member && member as usize <= self.count() {
             None
         } else {
             Some(WorldError::NoMember)
@@ -430,10 +503,8 @@ impl Cluster {
 
     // The own step of an event.
     fn step(&mut self, alloc: Global, event: &Event) -> Result<(), AllocError>
-        requires kept { IsKept self.old }
-        requires allowed { refusal (run_in self.old) event.now ≡ None }
-        ensures ok { OnOk result (run_in self.new ≡ steps event.now (run_in self.old)) }
-        ensures kept { OnOk result (IsKept self.new) }
+        requires allowed { refusal self.old event.now ≡ None }
+        ensures ok { OnOk result (self.new ≡ steps event.now self.old) }
     {
         match event {
             Event::Time { to } => {
@@ -464,10 +535,8 @@ impl Cluster {
 
     /// A whole event, of this line of the script.
     pub fn happen(&mut self, alloc: Global, line: u64, event: &Event) -> Result<(), AllocError>
-        requires kept { IsKept self.old }
-        requires allowed { refusal (run_in self.old) event.now ≡ None }
-        ensures ok { OnOk result (run_in self.new ≡ happens line event.now (run_in self.old)) }
-        ensures kept { OnOk result (IsKept self.new) }
+        requires allowed { refusal self.old event.now ≡ None }
+        ensures ok { OnOk result (self.new ≡ happens line event.now self.old) }
     {
         self.step(alloc, event)?;
         self.settle(alloc, line)

@@ -9,8 +9,8 @@ ghost use Rattle.ncc_replay.specs.Report.{report_of};
 ghost use Rattle.ncc_replay.specs.Script.{Script, IsScript, IsNoScript, run_of};
 ghost use Rattle.std.specs.Prelude.{◌++◌};
 ghost use Rattle.ncc_replay.specs.Progress.{RunIs};
-ghost use Rattle.ncc_replay.specs.Replay.{Reads, ReadsNone, IsTooLong, IsGiven, OfRun, MayEnd, status_unread, status_refused};
-ghost use Rattle.ncc_replay.specs.Replay.{most_bytes, run_words};
+ghost use Rattle.ncc_replay.specs.Replay.{Reads, ReadsNone, IsTooLong, IsGiven, OfRun, MayEnd};
+ghost use Rattle.ncc_replay.specs.Replay.{most_bytes, run_words, status_of_read_error, status_of_script_error};
 ghost use Rattle.ncc_replay.specs.declared.status.Cause.{Cause as Causes};
 ghost use Rattle.ncc_replay.specs.declared.status.Which.{Which as Limits};
 
@@ -79,8 +79,8 @@ fn write_report<K: Sink>(report: &[u8], output: &mut K) -> Status
 }
 
 // How a replay ends whose input is not read.
-fn status_of_input(error: ReadError) -> Status
-    ensures { result ≡ status_unread error }
+fn status_of_read_error(error: ReadError) -> Status
+    ensures { result ≡ status_of_read_error error }
 {
     match error {
         ReadError::Fault => Status::ReadFault,
@@ -92,8 +92,8 @@ fn status_of_input(error: ReadError) -> Status
 }
 
 // How a replay ends whose input gives no run.
-fn status_of_script(error: ScriptError) -> Status
-    ensures { result ≡ status_refused error }
+fn status_of_script_error(error: ScriptError) -> Status
+    ensures { result ≡ status_of_script_error error }
 {
     match error {
         ScriptError::Bad { line, cause } => Status::BadScript { line, cause },
@@ -152,11 +152,11 @@ pub fn replay<S: Source, K: Sink>(
     }
     let text = match read_all(alloc, input) {
         Ok(text) => text,
-        Err(error) => return status_of_input(error),
+        Err(error) => return status_of_read_error(error),
     };
     let report = match report(alloc, text.as_slice()) {
         Ok(report) => report,
-        Err(error) => return status_of_script(error),
+        Err(error) => return status_of_script_error(error),
     };
     write_report(report.as_slice(), output)
 }

@@ -1,7 +1,8 @@
 //! The lines of a report. Each function appends to what was written before it.
 #![tactic(auto, using(std::proofs::lemmas::List::append_assoc))]
 
-ghost use Rattle.std.specs.Prelude.{◌≡◌, ◌++◌, OnOk, codes, ◌+◌, ◌<◌, true, false, ℕ, IfOk, vec_len, slice_set, slice_index_or, ◌-◌};
+ghost use Rattle.std.specs.Prelude.{◌≡◌, ◌++◌, OnOk, codes, length, ◌+◌, ◌<◌, true, false, ℕ, IfOk, vec_len, ◌-◌};
+ghost use Rattle.std.specs.Prelude.{slice_set, slice_index_or};
 ghost use Rattle.std.specs.List.{flat_map};
 ghost use Rattle.ncc_replay.specs.Report.{spaced, rows_text, fact_text, fact_line, role_text, member_line, place_lines, is_waiting};
 ghost use Rattle.ncc_replay.specs.Report.{conn_state, conn_lines};
@@ -14,7 +15,7 @@ use ncc_pack::{Bytes, Text};
 use std::alloc::{AllocError, Global};
 
 // A space and the number.
-pub(crate) fn put_number(n: u64, into: &mut Bytes) -> Result<(), AllocError>
+fn append_number(n: u64, into: &mut Bytes) -> Result<(), AllocError>
     ensures { OnOk result (into.new ≡ into.old ++ spaced n) }
 {
     let mut buffer = Buffer::new();
@@ -23,7 +24,7 @@ pub(crate) fn put_number(n: u64, into: &mut Bytes) -> Result<(), AllocError>
 }
 
 // The rows of a statement: none, or one word.
-fn put_rows(rows: &Option<Text>, into: &mut Bytes) -> Result<(), AllocError>
+fn append_rows(rows: &Option<Text>, into: &mut Bytes) -> Result<(), AllocError>
     ensures { OnOk result (into.new ≡ into.old ++ rows_text rows.now) }
 {
     match rows {
@@ -36,59 +37,59 @@ fn put_rows(rows: &Option<Text>, into: &mut Bytes) -> Result<(), AllocError>
 }
 
 // A word and one number.
-fn put_counted(word: &[u8], n: u64, into: &mut Bytes) -> Result<(), AllocError>
+fn append_counted(word: &[u8], n: u64, into: &mut Bytes) -> Result<(), AllocError>
     ensures { OnOk result (into.new ≡ into.old ++ (word.now ++ spaced n)) }
 {
     into.extend(word)?;
-    put_number(n, into)
+    append_number(n, into)
 }
 
 // The place that was waited for, how far the member was, and the moment.
-fn put_late(need: u64, at: u64, now: u64, into: &mut Bytes) -> Result<(), AllocError>
+fn append_late(need: u64, at: u64, now: u64, into: &mut Bytes) -> Result<(), AllocError>
     ensures { OnOk result (into.new ≡ into.old
         ++ (codes "late" ++ (spaced need ++ (spaced at ++ spaced now)))) }
 {
-    put_counted(b"late", need, into)?;
-    put_number(at, into)?;
-    put_number(now, into)
+    append_counted(b"late", need, into)?;
+    append_number(at, into)?;
+    append_number(now, into)
 }
 
 // What a fact says.
 #[tactic(auto, using(std::proofs::lemmas::List::append_assoc), unfolding(crate::specs::Report::fact_text))]
-fn put_text(fact: &Fact, into: &mut Bytes) -> Result<(), AllocError>
+fn append_text(fact: &Fact, into: &mut Bytes) -> Result<(), AllocError>
     ensures { OnOk result (into.new ≡ into.old ++ fact_text fact.now) }
 {
     match fact {
-        Fact::Entered { at } => put_counted(b"entered", *at, into),
-        Fact::Late { need, at, now } => put_late(*need, *at, *now, into),
+        Fact::Entered { at } => append_counted(b"entered", *at, into),
+        Fact::Late { need, at, now } => append_late(*need, *at, *now, into),
         Fact::Rows { at, rows } => {
-            put_counted(b"rows", *at, into)?;
-            put_rows(rows, into)
+            append_counted(b"rows", *at, into)?;
+            append_rows(rows, into)
         }
-        Fact::Done { at } => put_counted(b"done", *at, into),
-        Fact::Placed { place } => put_counted(b"placed", *place, into),
+        Fact::Done { at } => append_counted(b"done", *at, into),
+        Fact::Placed { place } => append_counted(b"placed", *place, into),
         Fact::Elsewhere => into.extend(b"elsewhere"),
     }
 }
 
 // The line of a fact that was told.
 #[tactic(auto, using(std::proofs::lemmas::List::append_assoc), unfolding(crate::specs::Report::fact_line))]
-fn put_fact(told: &Told, into: &mut Bytes) -> Result<(), AllocError>
+fn append_fact(told: &Told, into: &mut Bytes) -> Result<(), AllocError>
     ensures { OnOk result (into.new ≡ into.old ++ fact_line told.now) }
 {
-    put_counted(b"fact", told.line, into)?;
-    put_number(told.conn, into)?;
+    append_counted(b"fact", told.line, into)?;
+    append_number(told.conn, into)?;
     into.extend(b" ")?;
-    put_text(&told.fact, into)?;
+    append_text(&told.fact, into)?;
     into.extend(b"\n")
 }
 
 /// The lines of the facts that were told.
-pub(crate) fn put_told(told: &[Told], into: &mut Bytes) -> Result<(), AllocError>
+pub(crate) fn append_told(told: &[Told], into: &mut Bytes) -> Result<(), AllocError>
     ensures { OnOk result (into.new ≡ into.old ++ flat_map fact_line told.now) }
 {
     for one in told {
-        put_fact(one, into)?;
+        append_fact(one, into)?;
     }
     Ok(())
 }
@@ -119,7 +120,7 @@ fn flags_of(alloc: Global, count: usize, live: &[Conn]) -> Result<Vec<bool>, All
 }
 
 // Whether a connection has a question.
-fn put_state(waiting: bool, into: &mut Bytes) -> Result<(), AllocError>
+fn append_state(waiting: bool, into: &mut Bytes) -> Result<(), AllocError>
     ensures { OnOk result (into.new ≡ into.old ++ conn_state waiting) }
 {
     if waiting {
@@ -130,18 +131,18 @@ fn put_state(waiting: bool, into: &mut Bytes) -> Result<(), AllocError>
 }
 
 // The line of a connection to a member.
-fn put_conn(conn: u64, member: u8, waiting: bool, into: &mut Bytes) -> Result<(), AllocError>
+fn append_conn(conn: u64, member: u8, waiting: bool, into: &mut Bytes) -> Result<(), AllocError>
     ensures { OnOk result (into.new ≡ into.old
         ++ (codes "conn" ++ (spaced conn ++ (spaced member ++ conn_state waiting)))) }
 {
-    put_counted(b"conn", conn, into)?;
-    put_number(member as u64, into)?;
-    put_state(waiting, into)
+    append_counted(b"conn", conn, into)?;
+    append_number(member as u64, into)?;
+    append_state(waiting, into)
 }
 
 /// The lines of the connections, from number 1 on: which of them have a question.
 #[tactic(auto, using(std::proofs::lemmas::List::append_assoc), unfolding(crate::specs::Report::conn_lines))]
-pub(crate) fn put_conns(
+pub(crate) fn append_conns(
     alloc: Global,
     opened: &[u8],
     live: &[Conn],
@@ -151,13 +152,13 @@ pub(crate) fn put_conns(
 {
     let flags = flags_of(alloc, opened.len(), live)?;
     for (index, member) in opened.iter().enumerate() {
-        put_conn(index as u64 + 1, *member, flags[index], into)?;
+        append_conn(index as u64 + 1, *member, flags[index], into)?;
     }
     Ok(())
 }
 
 // The role of a member, and its term.
-fn put_role(cores: u8, member: u64, into: &mut Bytes) -> Result<(), AllocError>
+fn append_role(cores: u8, member: u64, into: &mut Bytes) -> Result<(), AllocError>
     ensures { OnOk result (into.new ≡ into.old ++ role_text cores member) }
 {
     if member == 1 {
@@ -171,7 +172,7 @@ fn put_role(cores: u8, member: u64, into: &mut Bytes) -> Result<(), AllocError>
 
 /// The line of a member that has applied `at` entries.
 #[tactic(auto, using(std::proofs::lemmas::List::append_assoc), unfolding(crate::specs::Report::member_line))]
-pub(crate) fn put_member(
+pub(crate) fn append_member(
     cores: u8,
     member: u64,
     at: u64,
@@ -179,14 +180,14 @@ pub(crate) fn put_member(
 ) -> Result<(), AllocError>
     ensures { OnOk result (into.new ≡ into.old ++ member_line cores member at) }
 {
-    put_counted(b"member", member, into)?;
-    put_role(cores, member, into)?;
-    put_number(at, into)?;
+    append_counted(b"member", member, into)?;
+    append_role(cores, member, into)?;
+    append_number(at, into)?;
     into.extend(b"\n")
 }
 
 // What an entry writes.
-fn put_write(item: &Item, into: &mut Bytes) -> Result<(), AllocError>
+fn append_write(item: &Item, into: &mut Bytes) -> Result<(), AllocError>
     ensures { OnOk result (into.new ≡ into.old
         ++ (codes " put " ++ (item.now.key ++ (codes " " ++ (item.now.value ++ codes " valid\n"))))) }
 {
@@ -198,23 +199,35 @@ fn put_write(item: &Item, into: &mut Bytes) -> Result<(), AllocError>
 }
 
 // The line of the entry at a place.
-fn put_place(place: u64, item: &Item, into: &mut Bytes) -> Result<(), AllocError>
+fn append_place(place: u64, item: &Item, into: &mut Bytes) -> Result<(), AllocError>
     ensures { OnOk result (into.new ≡ into.old
         ++ (codes "place" ++ (spaced place ++ (spaced item.now.term ++ (codes " put " ++ (item.now.key
         ++ (codes " " ++ (item.now.value ++ codes " valid\n")))))))) }
 {
-    put_counted(b"place", place, into)?;
-    put_number(item.term, into)?;
-    put_write(item, into)
+    append_counted(b"place", place, into)?;
+    append_number(item.term, into)?;
+    append_write(item, into)
 }
 
-/// The lines of the entries of the history, from place 1 on.
+// The lines of the entries of the history, from place 1 on.
 #[tactic(auto, using(std::proofs::lemmas::List::append_assoc), unfolding(crate::specs::Report::place_lines))]
-pub(crate) fn put_places(history: &[Item], into: &mut Bytes) -> Result<(), AllocError>
+fn append_places(history: &[Item], into: &mut Bytes) -> Result<(), AllocError>
     ensures { OnOk result (into.new ≡ into.old ++ place_lines 1 history.now) }
 {
     for (index, item) in history.iter().enumerate() {
-        put_place(index as u64 + 1, item, into)?;
+        append_place(index as u64 + 1, item, into)?;
     }
     Ok(())
+}
+
+/// The lines of the history, and the last line.
+pub(crate) fn append_history(history: &[Item], into: &mut Bytes) -> Result<(), AllocError>
+    ensures appended { OnOk result (into.new ≡
+        into.old ++ (codes "history" ++ (spaced (length history.now) ++ (codes "\n" ++ (place_lines 1 history.now ++ codes "end\n"))))) }
+{
+    into.extend(b"history")?;
+    append_number(history.len() as u64, into)?;
+    into.extend(b"\n")?;
+    append_places(history, into)?;
+    into.extend(b"end\n")
 }

@@ -11,7 +11,7 @@ returns-in-Err-report-clause-completes g c = λ text s given within script.
     let same : text ≡ c.in-Ok.text.items = read_is (g.S.Source.left c.args.input.now)
     (g.S.Source.left c.read_all.new.input) text c.in-Ok.text.items given.holds c.in-Ok.ensures.ok in
     let there : text ≡ c.as_slice.result.now = same ∙ sym c.as_slice.ensures.value in
-    subst (λ x. MayEnd x Done) (sym c.status_of_script.ensures)
+    subst (λ x. MayEnd x Done) (sym c.status_of_script_error.ensures)
     (completes_error c.as_slice.result.now s c.in-Err-report.error (subst (λ t. IsScript t s) there script)
     (λ line cause e. c.in-Err-report.ensures.bad line cause (ap Err e)))
 
@@ -20,7 +20,7 @@ returns-in-Err-report-clause-refuses g c = λ text line cause given within scrip
     let same : text ≡ c.in-Ok.text.items = read_is (g.S.Source.left c.args.input.now)
     (g.S.Source.left c.read_all.new.input) text c.in-Ok.text.items given.holds c.in-Ok.ensures.ok in
     let there : text ≡ c.as_slice.result.now = same ∙ sym c.as_slice.ensures.value in
-    subst (λ x. MayEnd x (BadScript line cause)) (sym c.status_of_script.ensures)
+    subst (λ x. MayEnd x (BadScript line cause)) (sym c.status_of_script_error.ensures)
     (refuses_error c.as_slice.result.now line cause c.in-Err-report.error (subst (λ t. IsNoScript t line cause) there script)
     (λ at k e. c.in-Err-report.ensures.bad at k (ap Err e)))
 

@@ -1,6 +1,6 @@
 use Rattle.std.proofs.Common.{◌≡◌, ◌+◌, ◌++◌, drop, map}
 use Rattle.ncc_replay.specs.Report.{lines_of_places}
-use Rattle.ncc_replay.proofs.world.put_members.Given as goal
+use Rattle.ncc_replay.proofs.cluster.append_members.Given as goal
 
 -- what is written and the lines of what is left are all the lines
 abbrev pub invariant-loop-index : goal.invariant-loop-index

@@ -1,6 +1,6 @@
 use Rattle.std.proofs.Common.{◌≡◌, ◌++◌, ◌+◌, drop}
 use Rattle.ncc_replay.specs.Report.{place_lines}
-use Rattle.ncc_replay.proofs.report.put_places.Given as goal
+use Rattle.ncc_replay.proofs.report.append_places.Given as goal
 
 -- what is written so far and the entries that are left
 abbrev pub invariant-loop-index : goal.invariant-loop-index

@@ -1,7 +1,7 @@
 use Rattle.std.proofs.Common.{◌≡◌, ◌++◌, drop}
 use Rattle.std.specs.List.{flat_map}
 use Rattle.ncc_replay.specs.Report.{fact_line}
-use Rattle.ncc_replay.proofs.report.put_told.Given as goal
+use Rattle.ncc_replay.proofs.report.append_told.Given as goal
 
 -- what is written so far and the facts that are left
 abbrev pub invariant-loop-one : goal.invariant-loop-one

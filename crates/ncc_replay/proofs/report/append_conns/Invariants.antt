@@ -1,6 +1,6 @@
 use Rattle.std.proofs.Common.{◌≡◌, ◌++◌, ◌+◌, drop}
 use Rattle.ncc_replay.specs.Report.{conn_lines}
-use Rattle.ncc_replay.proofs.report.put_conns.Given as goal
+use Rattle.ncc_replay.proofs.report.append_conns.Given as goal
 
 -- what is written so far and the connections that are left
 abbrev pub invariant-loop-index : goal.invariant-loop-index
