@@ -24,7 +24,7 @@ use Rattle.ncc_tx.specs.declared.entry.Entry.TheVariants as e
 use Rattle.ncc_tx.specs.declared.entry.EntryError.{EntryError}
 use Rattle.ncc_tx.specs.declared.entry.EntryError.TheVariants.{Pack, BadShape, Memory}
 use Rattle.ncc_store.specs.Exec.{call_of}
-use Rattle.ncc_tx.specs.Spelled.{IsShape, IsOrMemory, Refuses, StepsOrMemory, call_value, calls_value, entry_fits, paired}
+use Rattle.ncc_tx.specs.Spelled.{IsShape, EntryOrMemory, Refuses, StepsOrMemory, call_value, calls_value, entry_fits, paired}
 use Rattle.ncc_tx.specs.Spelled.{rows_value, shape_of, shape_value, spelled, told_value, whole}
 use Rattle.ncc_pack.proofs.Laws.{one_form}
 use Rattle.ncc_pack.proofs.Trip.{short_is}
@@ -186,7 +186,7 @@ pack_refused bytes x y other f is =
     subst (Refuses bytes) same (pack_refuses bytes x other f)
 
 -- what was answered to a refusal of the steps
-pub steps_refused : (x : EntryError) (ss : List Step) → StepsOrMemory ss (Err x) → (y : Entry) → IsOrMemory (Err x) (Ok y)
+pub steps_refused : (x : EntryError) (ss : List Step) → StepsOrMemory ss (Err x) → (y : Entry) → EntryOrMemory (Err x) (Ok y)
 steps_refused Memory ss f y = tt
 steps_refused x ss f y = absurd cc
 

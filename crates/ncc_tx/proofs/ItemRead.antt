@@ -244,6 +244,6 @@ pub only_ok : OneSpelling → (least greatest : ℕ) (bs : List ℕ) (at end : �
 only_ok one least greatest bs at end i j few a b e =
     ap (λ (k : Item). answer k (at + length (item_bytes k))) (one_begins one least greatest bs i j few a b) ∙ ap (answer j) (sym e)
 
-pub not_ok : (e : EntryError) → (e ≡ f.Memory → ⊥) → (x : Entry) → t.IsOrMemory (Err e) (Ok x) → ⊥
+pub not_ok : (e : EntryError) → (e ≡ f.Memory → ⊥) → (x : Entry) → t.EntryOrMemory (Err e) (Ok x) → ⊥
 not_ok f.Memory other x h = other refl
 not_ok e other x h = cc

@@ -53,7 +53,7 @@ IsWrong least greatest bytes Size = RightTerm least greatest bytes × (length by
 IsWrong least greatest bytes EntryField = RightTerm least greatest bytes × (12 ≤ length bytes) × (RightEntry bytes → ⊥)
 
 -- the answer is this one, unless memory runs out
-abbrev pub IsOrMemory : Result (Item × ℕ) ItemError → Result (Item × ℕ) ItemError → Type 0
-IsOrMemory (Err Memory) r = Unit {0}
-IsOrMemory (Err e) r = r ≡ Err e
-IsOrMemory (Ok x) r = r ≡ Ok x
+abbrev pub ItemOrMemory : Result (Item × ℕ) ItemError → Result (Item × ℕ) ItemError → Type 0
+ItemOrMemory (Err Memory) r = Unit {0}
+ItemOrMemory (Err e) r = r ≡ Err e
+ItemOrMemory (Ok x) r = r ≡ Ok x

@@ -107,7 +107,7 @@ Refuses bytes (BadStatement n) = (calls : List Call) × (told : List (List (List
 Refuses bytes Memory = Unit {0}
 
 -- the first, unless memory runs out
-abbrev pub IsOrMemory : Result Entry EntryError → Result Entry EntryError → Type 0
-IsOrMemory (Err Memory) r = Unit {0}
-IsOrMemory (Err e) r = r ≡ Err e
-IsOrMemory (Ok x) r = r ≡ Ok x
+abbrev pub EntryOrMemory : Result Entry EntryError → Result Entry EntryError → Type 0
+EntryOrMemory (Err Memory) r = Unit {0}
+EntryOrMemory (Err e) r = r ≡ Err e
+EntryOrMemory (Ok x) r = r ≡ Ok x

@@ -6,7 +6,7 @@ ghost use Rattle.std.specs.List.{All};
 ghost use Rattle.ncc_tx.specs.declared.entry.Item.{Item};
 ghost use Rattle.ncc_tx.specs.declared.field.ItemError.TheVariants.{Wrong};
 ghost use Rattle.ncc_tx.specs.declared.field.ItemField.{ItemField};
-ghost use Rattle.ncc_tx.specs.Fields.{BeginsWith, Behind, IsOrMemory, IsWrong, RightEntry, RightTerm, size_at_front, term_at_front};
+ghost use Rattle.ncc_tx.specs.Fields.{BeginsWith, Behind, ItemOrMemory, IsWrong, RightEntry, RightTerm, size_at_front, term_at_front};
 ghost use Rattle.ncc_tx.specs.Items.{Begins, AreItems, counted, entry_allowed, item_bytes, items_bytes};
 ghost use Rattle.ncc_tx.specs.Kept.{AllAllowed, payload};
 ghost use Rattle.ncc_tx.specs.Spelled.{entry_fits};
@@ -195,11 +195,11 @@ pub fn read_item(
     // The place behind it.
     ensures behind { IfOk result (λ r. r.1 ≡ at + length (item_bytes r.0)) }
     // An item that stands there is read, unless memory runs out.
-    ensures only { (i : Item) → BeginsWith least greatest (drop at bytes.now) i → IsOrMemory result (Ok (i, at + length (item_bytes i))) }
+    ensures only { (i : Item) → BeginsWith least greatest (drop at bytes.now) i → ItemOrMemory result (Ok (i, at + length (item_bytes i))) }
     // A refusal names the first field that is wrong.
     ensures refused { (field : ItemField) → result ≡ Err (Wrong field) → IsWrong least greatest (drop at bytes.now) field }
     // Where a field is the first that is wrong, it is named, unless memory runs out.
-    ensures exact { (field : ItemField) → IsWrong least greatest (drop at bytes.now) field → IsOrMemory result (Err (Wrong field)) }
+    ensures exact { (field : ItemField) → IsWrong least greatest (drop at bytes.now) field → ItemOrMemory result (Err (Wrong field)) }
 {
     one_spelling();
     let rest = &bytes[at..];

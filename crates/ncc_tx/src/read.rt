@@ -9,7 +9,7 @@ ghost use Rattle.ncc_store.specs.declared.step.Step.{Step};
 ghost use Rattle.ncc_store.specs.Exec.{call_of};
 ghost use Rattle.ncc_tx.specs.declared.entry.Entry.{Entry};
 ghost use Rattle.ncc_tx.specs.declared.entry.EntryError.{EntryError};
-ghost use Rattle.ncc_tx.specs.Spelled.{IsOrMemory, IsStepsOf, Refuses, StepsOrMemory, entry_fits, spelled};
+ghost use Rattle.ncc_tx.specs.Spelled.{EntryOrMemory, IsStepsOf, Refuses, StepsOrMemory, entry_fits, spelled};
 
 use crate::entry::{Entry, EntryError};
 use crate::shape::{Shape, shape_of};
@@ -60,7 +60,7 @@ pub fn entry_of(alloc: Global, bytes: &[u8]) -> Result<Entry, EntryError>
     // What is read fits, and is spelled so.
     ensures found { IfOk result (λ x. IsTrue (entry_fits x) × (bytes.now ≡ spelled x)) }
     // What is spelled so is read, unless memory runs out.
-    ensures only { (x : Entry) → IsTrue (entry_fits x) → bytes.now ≡ spelled x → IsOrMemory result (Ok x) }
+    ensures only { (x : Entry) → IsTrue (entry_fits x) → bytes.now ≡ spelled x → EntryOrMemory result (Ok x) }
     // A refusal has its cause in the bytes.
     ensures refused { (e : EntryError) → result ≡ Err e → Refuses bytes.now e }
 {
