@@ -1,0 +1,15 @@
+pub mod Alone
+pub mod Applied
+pub mod Back
+pub mod Carrying
+pub mod Changes
+pub mod Conflicts
+pub mod Falls
+pub mod Frames
+pub mod Merged
+pub mod Never
+pub mod Saving
+pub mod Savings
+pub mod Sends
+pub mod Sound
+pub mod Stays

@@ -1,0 +1,9 @@
+pub mod Member
+pub mod Logs
+pub mod Elections
+pub mod Appending
+pub mod Step
+pub mod Carried
+pub mod Pulled
+pub mod Core
+pub mod Laws

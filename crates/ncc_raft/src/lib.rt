@@ -1,0 +1,12 @@
+//! One step of a core of the cluster: Raft, by Figure 2 of the extended Raft paper.
+#![tactic(auto)]
+
+mod carry;
+mod law;
+mod logs;
+mod message;
+
+pub use law::{may_be_saved, never_goes_back, notes_alone, sends_carried, stays_sound};
+pub use logs::{Clash, first_conflict};
+pub use message::{Body, Envelope, Envelopes, Note, ProposeError, RaftRole, Step};
+pub use ncc_tx::{ChangeSet, Entries, Item, Saved};
