@@ -16,7 +16,7 @@ abbrev by : Bool → Bool → List Item → ℕ → List Item → Taken
 by gap stale log first items =
     if gap then Gap (length log) first
     else (if stale then Stale (length log) (first + length items - 1) else grown log first items (first_conflict log (length log) first
-        (terms items)))
+    (terms items)))
 
 opened : (log items : List Item) (first : ℕ) →
     taken log first items ≡ by (nat_lt (length log + 1) first) (nat_le (first + length items) (length log + 1)) log first items
@@ -64,7 +64,7 @@ pub is_none : (log items : List Item) (first have : ℕ) → have ≡ length log
     first_conflict log have first (terms items) ≡ None → None ≡ told (taken log first items)
 is_none log items first have e le lt x =
     let y : first_conflict log (length log) first (terms items) ≡ None = ap (λ (n : ℕ). first_conflict log n first (terms items))
-        (sym e) ∙ x in
+    (sym e) ∙ x in
     sym (ap told (grown_is log items first (omega (arith, e)) (omega (arith, e)) ∙ ap (grown log first items) y))
 
 -- ---- what an answer says of the list
@@ -72,14 +72,14 @@ is_none log items first have e le lt x =
 abbrev Appended : List Item → List Item → ℕ → Type 0
 Appended log items first =
     (first ≤ length log + 1) × (length log + 1 - first ≤ length items) × (taken log first items ≡ Grown
-        (log ++ drop (length log + 1 - first) items))
+    (log ++ drop (length log + 1 - first) items))
 
 by_conflict : (log items : List Item) (first : ℕ) → first ≤ length log + 1 → length log + 1 < first + length items → (c : Option Conflict) →
     first_conflict log (length log) first (terms items) ≡ c → None ≡ told (taken log first items) → Appended log items first
 by_conflict log items first le lt None x e = (le, omega arith, grown_is log items first le lt ∙ ap (grown log first items) x)
 by_conflict log items first le lt (Some y) x e =
     absurd (none-some (error.Contradicted y.place y.kept y.told)
-        (e ∙ ap told (grown_is log items first le lt ∙ ap (grown log first items) x)))
+    (e ∙ ap told (grown_is log items first le lt ∙ ap (grown log first items) x)))
 
 -- where nothing is told, the items behind its own are appended
 pub appended : (log items : List Item) (first : ℕ) → None ≡ told (taken log first items) → Appended log items first
@@ -140,16 +140,17 @@ pub clash_refused : (t : Taken) (e : TakeError) (r : Answer) → Some e ≡ told
 clash_refused (Grown log) e r s x p k u = (λ h. absurd (cc), λ h. absurd (cc))
 clash_refused (Gap a b) e r s x p k u = (λ h. absurd (cc), λ h. absurd (cc))
 clash_refused (Stale a b) e r s x p k u = (λ h. absurd (cc), λ h. absurd (cc))
-clash_refused (Contradicted y) e r s x p k u =
-    (λ h.
+clash_refused (Contradicted y) e r s x p k u = (
+  λ h.
       let a : y.place ≡ p = cc in
       let b : y.kept ≡ k = cc in
       let c : y.told ≡ u = cc in
       λ i. Contradicted (record { place = a i; kept = b i; told = c i }),
-    λ h.
+  λ h.
       let g : told (Contradicted y) ≡ Some (error.Contradicted p k u) = ap told h in
       let f : e ≡ error.Contradicted p k u = same_Some e (error.Contradicted p k u) (s ∙ g) in
-      x ∙ ap refusal f)
+      x ∙ ap refusal f,
+)
 
 -- none
 pub none_told : (t : Taken) (r : Answer) (e : TakeError) (u : Taken) → None ≡ told t → Some e ≡ told u → (r ≡ Err e → ⊥) →
