@@ -1,0 +1,5 @@
+use Rattle.ncc_log.proofs.Refusals.{one_saves}
+use Rattle.ncc_log.proofs.law.one_part.Goals as goal
+
+pub returns : goal.returns
+returns c = record { one = one_saves }
