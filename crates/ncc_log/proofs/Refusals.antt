@@ -20,7 +20,8 @@ some_left : (s t : Saved) (b : List ℕ) → Stands s b t → 1 ≤ length b
 some_left s t b (closed _ _ rest e) = omega (arith, ap length e)
 some_left s t b (opened _ _ _ gate c rest is_open m e on) = omega (arith, ap length e)
 
-none_wrong : (cluster member : ℕ) (b : List ℕ) (s : Saved) → cluster < 2 ^ 64 → Saves cluster member b s → header_fault cluster member b ≡ None
+none_wrong : (cluster member : ℕ) (b : List ℕ) (s : Saved) → cluster < 2 ^ 64 → Saves cluster member b s →
+    header_fault cluster member b ≡ None
 none_wrong cluster member b s few a =
     ap (header_fault cluster member) a.whole
     ∙ none_of_header cluster member a.records few (some_left nothing s a.records a.stands)
