@@ -76,7 +76,7 @@ vote_reply_alone seat m l from t granted = go (is_candidate l.role && nat_eq l.t
   where
     go : (a b : Bool) → Noting m (if a
         then (if b then sends (won seat (counted l from)) (appends seat (won seat (counted l from))) else still
-        (counted l from)) else still l)
+            (counted l from)) else still l)
     go true true = quiet m (sends (won seat (counted l from)) (appends seat (won seat (counted l from)))) refl
     go true false = quiet m (still (counted l from)) refl
     go false b = quiet m (still l) refl
@@ -105,7 +105,7 @@ append_alone seat m l from t prev prev_term commit items same_log same_commit = 
 
     first : (b : Bool) → Noting m (if b then notes (follows l from) (Beyond (prev + length items))
         else unless (contradicted (follows l from) prev prev_term items) (follows l from)
-        (took_or_not seat (follows l from) from prev prev_term commit items))
+            (took_or_not seat (follows l from) from prev prev_term commit items))
     first true = λ n. record {
       only = record { sent = refl; log = same_log; commit = same_commit; spent = λ e. absurd (cc) };
       follower = refl;

@@ -110,5 +110,5 @@ pub commit_within : (log items : List Item) (commit prev prev_term : ℕ) → co
     first_conflict log commit prev (prev_term ∷ terms items) ≡ None → commit ≤ length (accepted log prev items)
 commit_within log items commit prev prev_term le ge none =
     let e : length (take commit (accepted log prev items)) ≡ length (take commit log) = ap length
-    (applied_stays log items commit prev prev_term le ge none) in
+        (applied_stays log items commit prev prev_term le ge none) in
     omega (arith, e, length-take commit (accepted log prev items), length-take commit log)

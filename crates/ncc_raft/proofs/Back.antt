@@ -188,7 +188,7 @@ append_back seat m from t prev prev_term commit items s = go (nat_lt t m.term) (
 
     first : (b : Bool) → Back m (if b then notes (follows m from) (Beyond (prev + length items))
         else unless (contradicted (follows m from) prev prev_term items) (follows m from)
-        (took_or_not seat (follows m from) from prev prev_term commit items)).member
+            (took_or_not seat (follows m from) from prev prev_term commit items)).member
     first true = stays
     first false = second (contradicted (follows m from) prev prev_term items) refl
 

@@ -287,7 +287,7 @@ append_go seat m from t prev prev_term commit items i s n = go (nat_lt t m.term)
     first : (b : Bool) → nat_lt seat.limit (prev + length items) ≡ b → Goes 0 (if b then notes (follows m from)
         (Beyond (prev + length items))
         else unless (contradicted (follows m from) prev prev_term items) (follows m from)
-        (took_or_not seat (follows m from) from prev prev_term commit items)).sent
+            (took_or_not seat (follows m from) from prev prev_term commit items)).sent
     first true e = goes_none 0
     first false e = second (contradicted (follows m from) prev prev_term items) (ltb-false seat.limit (prev + length items) e)
 
@@ -310,7 +310,7 @@ append_reply_go seat m from t has place i s c = go (is_leader m.role && nat_eq m
         let l = after.leads lead from c in
         one (append_to seat (noted m from false place) from)
         (append_carried seat (noted m from false place) from (next_of (noted m from false place) from - 1) i after w.0 w.1
-        (omega (arith, l.1)))
+            (omega (arith, l.1)))
 
     go : (a : Bool) → (is_leader m.role && nat_eq m.term t) ≡ a → Goes 0 (if a then answered seat m from has place else still m).sent
     go true e = inner has (and_parts (is_leader m.role) (nat_eq m.term t) e).0
@@ -329,7 +329,7 @@ batch_carried seat m to have i s n lt = record {
         (falls_all 0 m.term m.log s.saved.terms s.saved.term))),
     front_fits 19 (drop have (applied m)) (omega arith)
         (All-drop (λ (y : Item). IsTrue (entry_allowed y.entry)) have (applied m)
-        (All-take (λ (y : Item). IsTrue (entry_allowed y.entry)) m.commit m.log s.saved.entries)),
+            (All-take (λ (y : Item). IsTrue (entry_allowed y.entry)) m.commit m.log s.saved.entries)),
   );
 }
 

@@ -58,5 +58,5 @@ added a b v w old x =
     let some : x ∷ [] ≡ [] → ⊥ = λ e. absurd (cc) in
     let g = grown a b v w old (length old) (x ∷ []) (omega arith) parted some in
     subst (λ (l : List Item). Leads (kept_as a v old) (kept_as b w (l ++ x ∷ []))
-    (Some (record { term = b; vote = w; keep = length old; items = x ∷ [] })))
+        (Some (record { term = b; vote = w; keep = length old; items = x ∷ [] })))
     (take_all (length old) old (omega arith)) g

@@ -107,9 +107,9 @@ pub prev_found : (log : List Item) (last place kept t : ℕ) (b : Bool) (items :
 unfolding first_conflict
 prev_found log last place kept t b items e f g =
     ap (λ (k : ℕ). if nat_le place last && not (nat_eq k t) then Some
-    (record { place = place; kept = k; told = t }) else first_conflict log last (suc place) (terms items)) (sym e)
+        (record { place = place; kept = k; told = t }) else first_conflict log last (suc place) (terms items)) (sym e)
     ∙ ap (λ (c : Bool). if c then Some (record { place = place; kept = kept; told = t }) else first_conflict log last (suc place)
-    (terms items)) (sym f ∙ g)
+        (terms items)) (sym f ∙ g)
 
 not_prev : (log : List Item) (last place kept t : ℕ) (b : Bool) (items : List Item) → kept ≡ term_at log place →
     b ≡ (nat_le place last && not (nat_eq kept t)) → b ≡ false →
@@ -118,9 +118,9 @@ unfolding first_conflict
 not_prev log last place kept t b items e f g =
     let on : suc place ≡ place + 1 = omega arith in
     ap (λ (k : ℕ). if nat_le place last && not (nat_eq k t) then Some
-    (record { place = place; kept = k; told = t }) else first_conflict log last (suc place) (terms items)) (sym e)
+        (record { place = place; kept = k; told = t }) else first_conflict log last (suc place) (terms items)) (sym e)
     ∙ ap (λ (c : Bool). if c then Some (record { place = place; kept = kept; told = t }) else first_conflict log last (suc place)
-    (terms items)) (sym f ∙ g)
+        (terms items)) (sym f ∙ g)
     ∙ ap (λ (p : ℕ). first_conflict log last p (terms items)) on
 
 pub prev_some : (log : List Item) (last place kept t : ℕ) (b : Bool) (items : List Item) (r : Option Clash) → kept ≡ term_at log place →

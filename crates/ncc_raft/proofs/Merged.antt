@@ -48,13 +48,8 @@ merged_parts (o ∷ os) (x ∷ xs) zero s lt = merged_other o x os xs s.most
 merged_parts (o ∷ os) (x ∷ xs) (suc n) s lt =
     let h = same_head o x os xs n s.same in
     merged_same o x os xs h.0 ∙ ap (λ (l : List Item). o ∷ l)
-    (merged_parts os xs n (record {
-      in_first = omega (arith, s.in_first);
-      in_second = omega
-          (arith, s.in_second);
-      same = h.1;
-      most = s.most;
-    }) (omega arith))
+    (merged_parts os xs n (record { in_first = omega (arith, s.in_first); in_second = omega
+        (arith, s.in_second); same = h.1; most = s.most }) (omega arith))
 
 pub merged_whole : (old new : List Item) → SameTerms old new (length new) → merged old new ≡ old
 merged_whole old [] s = merged_nil old
@@ -62,13 +57,8 @@ merged_whole [] (x ∷ xs) s = absurd (omega (arith, s.in_first))
 merged_whole (o ∷ os) (x ∷ xs) s =
     let h = same_head o x os xs (length xs) s.same in
     merged_same o x os xs h.0 ∙ ap (λ (l : List Item). o ∷ l)
-    (merged_whole os xs (record {
-      in_first = omega (arith, s.in_first);
-      in_second = omega
-          (arith, s.in_second);
-      same = h.1;
-      most = s.most;
-    }))
+    (merged_whole os xs (record { in_first = omega (arith, s.in_first); in_second = omega
+        (arith, s.in_second); same = h.1; most = s.most }))
 
 nothing : (k : ℕ) → take {A = Item} k [] ≡ []
 nothing zero = refl
@@ -163,7 +153,7 @@ merged_length old [] = subst (λ (l : List Item). Lengths (length old) 0 (length
     (record { least = omega arith; most = omega arith })
 merged_length [] (x ∷ xs) =
     subst (λ (l : List Item). Lengths 0 (suc (length xs)) (length l)) (sym (merged_empty x xs))
-    (record { least = omega arith; most = omega arith })
+        (record { least = omega arith; most = omega arith })
 merged_length (o ∷ os) (x ∷ xs) = elim (cases_eq o.term x.term) [
   | inl t ↦
       let h : Lengths (length os) (length xs) (length (merged os xs)) = merged_length os xs in
@@ -177,23 +167,12 @@ merged_length (o ∷ os) (x ∷ xs) = elim (cases_eq o.term x.term) [
 pub accepted_least : (log items : List Item) (prev : ℕ) → prev ≤ length log → prev + length items ≤ length (accepted log prev items)
 unfolding accepted
 accepted_least log items prev le =
-    omega (
-      arith,
-      (merged_length (drop prev log) items).least,
-      length-take-le prev log le,
-      length-append (take prev log)
-          (merged (drop prev log) items),
-    )
+    omega (arith, (merged_length (drop prev log) items).least, length-take-le prev log le, length-append (take prev log)
+        (merged (drop prev log) items))
 
 pub accepted_most : (log items : List Item) (prev : ℕ) → prev ≤ length log → length (accepted log prev items) ≤ max (length log)
     (prev + length items)
 unfolding accepted
 accepted_most log items prev le =
-    omega (
-      arith,
-      (merged_length (drop prev log) items).most,
-      length-take-le prev log le,
-      length-drop prev log,
-      length-append
-          (take prev log) (merged (drop prev log) items),
-    )
+    omega (arith, (merged_length (drop prev log) items).most, length-take-le prev log le, length-drop prev log, length-append
+        (take prev log) (merged (drop prev log) items))

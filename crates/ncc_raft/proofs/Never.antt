@@ -32,5 +32,5 @@ never seat m Beat i s c = back.to_never m (settled seat (on_beat seat m)).member
     (back.beat_back seat m))
 never seat m (Propose entry) i s c =
     back.to_never m (settled seat (on_propose seat m entry)).member (back.settles seat m (on_propose seat m entry)
-    (back.propose_back seat m entry s))
+        (back.propose_back seat m entry s))
 never seat m (Receive e) i s c = received seat m e s c

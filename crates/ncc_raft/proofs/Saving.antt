@@ -29,9 +29,9 @@ bytes_of : (items : List Item) → AllAllowed items → length (items_bytes item
 bytes_of [] ok = omega arith
 bytes_of (i ∷ is) ok =
     let here : length (spelled i.entry) ≤ 1_048_576 = allowed_short i.entry
-    (All-head (λ (y : Item). IsTrue (entry_allowed y.entry)) i is ok) in
+        (All-head (λ (y : Item). IsTrue (entry_allowed y.entry)) i is ok) in
     let rest : length (items_bytes is) ≤ 1_048_588 * length is = bytes_of is
-    (All-tail (λ (y : Item). IsTrue (entry_allowed y.entry)) i is ok) in
+        (All-tail (λ (y : Item). IsTrue (entry_allowed y.entry)) i is ok) in
     omega (arith, here, rest, length_item i, length-append (item_bytes i) (items_bytes is))
 
 short : (c : ChangeSet) → AllAllowed c.items → length c.items ≤ 64 → length (payload c) < 2 ^ 32
@@ -44,11 +44,11 @@ pub follows : (old new : Saved) (c : ChangeSet) → IsChange old new c → MayKe
     MayFollow old c
 follows old new c is k up few =
     let ok : AllAllowed c.items = subst AllAllowed (sym is.items)
-    (All-drop (λ (y : Item). IsTrue (entry_allowed y.entry)) c.keep new.log k.entries) in
+        (All-drop (λ (y : Item). IsTrue (entry_allowed y.entry)) c.keep new.log k.entries) in
     let falls : NeverFalls (term_at new.log c.keep) new.term
-    (drop c.keep new.log) = falls_behind new.term c.keep new.log is.keep.in_new k.terms in
+        (drop c.keep new.log) = falls_behind new.term c.keep new.log is.keep.in_new k.terms in
     let at : term_at new.log c.keep ≡ term_at old.log c.keep = sym
-    (same_at old.log new.log c.keep is.keep.in_old is.keep.in_new is.keep.same) in
+        (same_at old.log new.log c.keep is.keep.in_old is.keep.in_new is.keep.same) in
     let items : NeverFalls (term_at old.log c.keep) c.term c.items =
     subst (λ (t : ℕ). NeverFalls (term_at old.log c.keep) t c.items) (sym is.term)
     (subst (λ (l : List Item). NeverFalls (term_at old.log c.keep) new.term l) (sym is.items)
@@ -157,11 +157,11 @@ taken old new c prev items is le e =
           let within : prev + h.0 ≤ length old.log = omega (arith, h.1.in_first, length-drop prev old.log) in
           let other : Leads old new (Some (record { term = new.term; vote = new.vote; keep = prev + h.0; items = drop h.0 items })) =
           subst (λ (l : List Item). Leads old (kept_as new.term new.vote l)
-          (Some (record { term = new.term; vote = new.vote; keep = prev + h.0; items = drop h.0 items }))) (sym log)
+              (Some (record { term = new.term; vote = new.vote; keep = prev + h.0; items = drop h.0 items }))) (sym log)
           (grown old.term new.term old.vote new.vote old.log (prev + h.0) (drop h.0 items) within parted (some_left h.0 items lt)) in
           let one : Some c ≡ Some (record { term = new.term; vote = new.vote; keep = prev + h.0; items = drop h.0 items }) =
           changes.one old new (Some c)
-          (Some (record { term = new.term; vote = new.vote; keep = prev + h.0; items = drop h.0 items })) is other in
+              (Some (record { term = new.term; vote = new.vote; keep = prev + h.0; items = drop h.0 items })) is other in
           let same : c ≡ record { term = new.term; vote = new.vote; keep = prev + h.0; items = drop h.0 items } = same_Some c _ one in
           (take h.0 items, sym (ap (λ (d : ChangeSet). take h.0 items ++ d.items) same ∙ take-append-drop h.0 items))
       | inr ge ↦

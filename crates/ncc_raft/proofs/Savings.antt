@@ -54,7 +54,7 @@ vote_reply_log seat m from t granted = go (is_candidate m.role && nat_eq m.term 
   where
     go : (a b : Bool) → LogIs m.log (noop_of seat m) [] (if a
         then (if b then sends (won seat (counted m from)) (appends seat (won seat (counted m from))) else still
-        (counted m from)) else still m).member.log
+            (counted m from)) else still m).member.log
     go true true = inr (inl refl)
     go true false = inl refl
     go false b = inl refl
@@ -80,7 +80,7 @@ append_log seat m from t prev prev_term commit items = go (nat_lt t m.term) (is_
 
     first : (b : Bool) → LogIs m.log (noop_of seat m) items (if b then notes (follows m from) (Beyond (prev + length items))
         else unless (contradicted (follows m from) prev prev_term items) (follows m from)
-        (took_or_not seat (follows m from) from prev prev_term commit items)).member.log
+            (took_or_not seat (follows m from) from prev prev_term commit items)).member.log
     first true = inl refl
     first false = second (contradicted (follows m from) prev prev_term items)
 

@@ -39,5 +39,5 @@ sends seat m Timeout i s c =
 sends seat m Beat i s c = both (settled seat (on_beat seat m)) (carrying.settled_go seat (on_beat seat m) (carrying.beat_go seat m i s))
 sends seat m (Propose entry) i s c =
     both (settled seat (on_propose seat m entry)) (carrying.settled_go seat (on_propose seat m entry)
-    (carrying.propose_go seat m entry i s c))
+        (carrying.propose_go seat m entry i s c))
 sends seat m (Receive e) i s c = received seat m e i s c

@@ -130,7 +130,7 @@ timeout_sound seat m i s = go (is_leader m.role) (is_spent m) refl
   where
     go : (a b : Bool) → is_spent m ≡ b →
         IsSound seat (if a then still m else (if b then notes m TermsSpent else sends (timed_out seat m)
-        (asks seat (timed_out seat m)))).member
+            (asks seat (timed_out seat m)))).member
     go true b e = s
     go false true e = s
     go false false e = timed_out_sound seat m i s e
@@ -228,7 +228,7 @@ won_sound seat m i s =
           let w = is_core_within seat.cores core c in
           let a : match_of (won seat m) core ≡ 0 = get_or-replicate seat.cores (core - 1) 0 0 (omega arith) in
           let b : next_of (won seat m) core ≡ length m.log + 1 = get_or-replicate seat.cores (core - 1) (length m.log + 1) 0
-          (omega arith) in
+              (omega arith) in
           (omega (arith, a, b), omega (arith, b, n.0));
     }
 
@@ -345,15 +345,15 @@ noted_leads seat m match next from a b s c em en lt le l core k =
     elim (cases_eq core from) [
       | inl e ↦
           let x : get_or match (core - 1) 0 ≡ a = ap (λ (xs : List ℕ). get_or xs (core - 1) 0) em ∙ ap
-          (λ (j : ℕ). get_or (slice_set m.match (from - 1) a) (j - 1) 0) e ∙ slot_same m.match seat.cores from a s.match w.0 w.1 in
+              (λ (j : ℕ). get_or (slice_set m.match (from - 1) a) (j - 1) 0) e ∙ slot_same m.match seat.cores from a s.match w.0 w.1 in
           let y : get_or next (core - 1) 0 ≡ b = ap (λ (xs : List ℕ). get_or xs (core - 1) 0) en ∙ ap
-          (λ (j : ℕ). get_or (slice_set m.next (from - 1) b) (j - 1) 0) e ∙ slot_same m.next seat.cores from b s.next w.0 w.1 in
+              (λ (j : ℕ). get_or (slice_set m.next (from - 1) b) (j - 1) 0) e ∙ slot_same m.next seat.cores from b s.next w.0 w.1 in
           (omega (arith, x, y), omega (arith, y))
       | inr ne ↦
           let x : get_or match (core - 1) 0 ≡ get_or m.match (core - 1) 0 = ap (λ (xs : List ℕ). get_or xs (core - 1) 0) em
-          ∙ slot_other m.match from core a w.0 v.0 ne in
+              ∙ slot_other m.match from core a w.0 v.0 ne in
           let y : get_or next (core - 1) 0 ≡ get_or m.next (core - 1) 0 = ap (λ (xs : List ℕ). get_or xs (core - 1) 0) en
-          ∙ slot_other m.next from core b w.0 v.0 ne in
+              ∙ slot_other m.next from core b w.0 v.0 ne in
           let old = l core k in
           (omega (arith, x, y, old.0), omega (arith, y, old.1))
     ]
@@ -396,12 +396,12 @@ noted_sound seat m from false place s c lead =
           | inl e ↦
               let y : get_or (with_slot m.next from (back_to m from place + 1)) (core - 1) 0 ≡ back_to m from place + 1 =
               ap (λ (j : ℕ). get_or (with_slot m.next from (back_to m from place + 1)) (j - 1) 0) e ∙ slot_same m.next seat.cores from
-              (back_to m from place + 1) s.next w.0 w.1 in
+                  (back_to m from place + 1) s.next w.0 w.1 in
               let x : get_or m.match (core - 1) 0 ≡ get_or m.match (from - 1) 0 = ap (λ (j : ℕ). get_or m.match (j - 1) 0) e in
               (omega (arith, x, y), omega (arith, y, k.0, k.1))
           | inr ne ↦
               let y : get_or (with_slot m.next from (back_to m from place + 1)) (core - 1) 0 ≡ get_or m.next
-              (core - 1) 0 = slot_other m.next from core (back_to m from place + 1) w.0 v.0 ne in
+                  (core - 1) 0 = slot_other m.next from core (back_to m from place + 1) w.0 v.0 ne in
               let old = l core d in
               (omega (arith, y, old.0), omega (arith, y, old.1))
         ]

@@ -23,7 +23,7 @@ received seat m e i s c = go (heard seat e) refl
         let l = sound.lifted_sound seat m e.body s w in
         sound.settled_sound seat (on_body seat (lifted m e.body) e.from e.body)
         (sound.body_sound seat (lifted m e.body) e.from e.body i l c.body (and_parts (nat_eq e.to seat.id)
-        (hears_from seat e.from e.body) h).1 (sound.lifted_up m e.body))
+            (hears_from seat e.from e.body) h).1 (sound.lifted_up m e.body))
     go false h = s
 
 pub stays : StaysSound
