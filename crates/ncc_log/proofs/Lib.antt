@@ -1,7 +1,17 @@
+pub mod Moments
 pub mod One
+pub mod ItemsRead
+pub mod FrontRead
 pub mod GateRead
 pub mod HeaderRead
 pub mod Stand
+pub mod Reach
+pub mod Crash
+pub mod Save
 pub mod Refusals
+pub mod WrongByte
+pub mod PayloadBytes
+pub mod Parts
 pub mod Begun
+pub mod Saving
 pub mod Rows

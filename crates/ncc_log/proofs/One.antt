@@ -1,6 +1,6 @@
 -- A record is told from its bytes.
-use Rattle.std.proofs.Common.{◌≡◌, ℕ, ◌+◌, ◌^◌, ◌<◌, ◌≤◌, List, [], ◌∷◌, ◌++◌, length, take, refl, sym, ap, ◌∙◌, append_assoc, arith}
-use Rattle.std.proofs.Common.{length-append}
+use Rattle.std.proofs.Common.{◌≡◌, ℕ, ◌+◌, ◌^◌, ◌<◌, ◌≤◌, List, [], ◌∷◌, ◌++◌, length, take, drop, refl, sym, ap, ◌∙◌, append_assoc, subst, arith}
+use Rattle.std.proofs.Common.{length-append, length-take}
 use Rattle.std.specs.Int.{w32, w64, to_be_bytes, from_be_bytes}
 use Rattle.std.specs.List.{All}
 use Rattle.std.proofs.lemmas.List.{append_cancel_left, append-nil, length-take-le, take_at}
@@ -10,7 +10,7 @@ use Rattle.ncc_tx.specs.declared.entry.ChangeSet.{ChangeSet}
 use Rattle.ncc_tx.specs.declared.entry.Item.{Item}
 use Rattle.ncc_tx.specs.declared.entry.Saved.{Saved}
 use Rattle.ncc_tx.specs.Items.{AreItems, counted}
-use Rattle.ncc_tx.specs.Kept.{NeverFalls, max_items, payload}
+use Rattle.ncc_tx.specs.Kept.{NeverFalls, max_items, part_after, payload, term_limit}
 use Rattle.ncc_tx.proofs.Entries.{one_entry}
 use Rattle.ncc_tx.proofs.ItemRead.{one_counted}
 use Rattle.ncc_log.specs.Records.{MayStandBehind, recorded}
@@ -71,15 +71,15 @@ one_payload c d f g e =
     let whole : front_of c ++ counted c.items ≡ front_of d ++ counted d.items = sym (payload_is c) ∙ e ∙ payload_is d in
     let parts = cut (front_of c) (front_of d) (counted c.items) (counted d.items) whole refl in
     let fronts = cut (to_be_bytes w64 c.term) (to_be_bytes w64 d.term) (c.vote ∷ to_be_bytes w64 c.keep)
-    (d.vote ∷ to_be_bytes w64 d.keep) parts.0 refl in
+        (d.vote ∷ to_be_bytes w64 d.keep) parts.0 refl in
     let term : c.term ≡ d.term = sym (from_be_bytes-to_be_bytes_8 c.term f.term) ∙ ap (from_be_bytes w64) fronts.0
-    ∙ from_be_bytes-to_be_bytes_8 d.term g.term in
+        ∙ from_be_bytes-to_be_bytes_8 d.term g.term in
     let behind = cut (c.vote ∷ []) (d.vote ∷ []) (to_be_bytes w64 c.keep) (to_be_bytes w64 d.keep) fronts.1 refl in
     let vote : c.vote ≡ d.vote = let one : c.vote ∷ [] ≡ d.vote ∷ [] = behind.0 in cc in
     let keep : c.keep ≡ d.keep = sym (from_be_bytes-to_be_bytes_8 c.keep f.keep) ∙ ap (from_be_bytes w64) behind.1
-    ∙ from_be_bytes-to_be_bytes_8 d.keep g.keep in
+        ∙ from_be_bytes-to_be_bytes_8 d.keep g.keep in
     let items : c.items ≡ d.items = one_counted one_entry c.items d.items [] [] f.items g.items
-    (append-nil (counted c.items) ∙ parts.1 ∙ sym (append-nil (counted d.items))) in
+        (append-nil (counted c.items) ∙ parts.1 ∙ sym (append-nil (counted d.items))) in
     λ i. record { term = term i; vote = vote i; keep = keep i; items = items i }
 
 pub recorded_is : (c : ChangeSet) → recorded c ≡ to_be_bytes w32 (length (payload c)) ++ payload c
@@ -95,10 +95,10 @@ one_record c d r s f g e =
     let m : List ℕ = to_be_bytes w32 (length (payload c)) in
     let n : List ℕ = to_be_bytes w32 (length (payload d)) in
     let whole : m ++ (payload c ++ r) ≡ n ++ (payload d ++ s) = sym (append_assoc m (payload c) r)
-    ∙ ap (λ (l : List ℕ). l ++ r) (sym (recorded_is c)) ∙ e ∙ ap (λ (l : List ℕ). l ++ s) (recorded_is d)
-    ∙ append_assoc n (payload d) s in
+        ∙ ap (λ (l : List ℕ). l ++ r) (sym (recorded_is c)) ∙ e ∙ ap (λ (l : List ℕ). l ++ s) (recorded_is d)
+        ∙ append_assoc n (payload d) s in
     let parts = cut m n (payload c ++ r) (payload d ++ s) whole refl in
     let size : length (payload c) ≡ length (payload d) = sym (from_be_bytes-to_be_bytes_4 (length (payload c)) f.short)
-    ∙ ap (from_be_bytes w32) parts.0 ∙ from_be_bytes-to_be_bytes_4 (length (payload d)) g.short in
+        ∙ ap (from_be_bytes w32) parts.0 ∙ from_be_bytes-to_be_bytes_4 (length (payload d)) g.short in
     let both = cut (payload c) (payload d) r s parts.1 size in
     (one_payload c d f g both.0, both.1)

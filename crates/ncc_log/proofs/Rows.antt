@@ -1,6 +1,7 @@
 -- Laws of what stands behind a closed gate, and the worked journal.
-use Rattle.std.proofs.Common.{◌≡◌, inl, inr, ℕ, List, [], ◌∷◌, ◌++◌, length, drop, refl, sym, ◌∙◌, ap, append_assoc, arith, None}
+use Rattle.std.proofs.Common.{◌≡◌, inl, inr, ℕ, ◌+◌, ◌^◌, ◌<◌, ◌≤◌, List, [], ◌∷◌, ◌++◌, length, drop, refl, sym, ◌∙◌, ap, append_assoc, arith, None}
 use Rattle.std.specs.Prelude.{IsTrue}
+use Rattle.std.specs.Int.{w32, to_be_bytes}
 use Rattle.std.proofs.lemmas.List.Elements.{All-nil}
 use Rattle.ncc_tx.specs.declared.entry.ChangeSet.{ChangeSet}
 use Rattle.ncc_tx.specs.declared.entry.Item.{Item}
@@ -30,12 +31,13 @@ saves_kept cluster member b s a = kept_by nothing s a.records first a.stands
 pub stands_on : (s t : Saved) (b : List ℕ) (c : ChangeSet) → Stands s b t → MayStandBehind t c →
     (front rest : List ℕ) × (b ≡ front ++ (0 ∷ rest))
     × ((gate : ℕ) (tail : List ℕ) (u : Saved) → (gate ≡ 0 → ⊥) → Stands (part_after t c) tail u →
-    Stands s (front ++ (gate ∷ (recorded c ++ tail))) u)
+        Stands s (front ++ (gate ∷ (recorded c ++ tail))) u)
 stands_on s t b c (closed _ _ rest e) m =
     ([], rest, e, λ gate tail u is_open on. opened s u (gate ∷ (recorded c ++ tail)) gate c tail is_open m refl on)
 stands_on s t b c (opened _ _ _ gate d rest is_open n e on) m =
     let r = stands_on (part_after s d) t rest c on m in
-    let front : List ℕ = gate ∷ (recorded d ++ r.0) in (
+    let front : List ℕ = gate ∷ (recorded d ++ r.0) in
+    (
       front,
       r.1,
       e ∙ ap (λ (l : List ℕ). gate ∷ (recorded d ++ l)) r.2 ∙ ap (λ (l : List ℕ). gate ∷ l) (sym (append_assoc (recorded d) r.0 (0 ∷ r.1))),
@@ -93,14 +95,10 @@ unfolding header_fault
 right_row = refl
 
 pub cut_row : Refuses 1 2 saved_front (Damaged 14)
-cut_row = inr (
-  14,
-  refl,
-  record {
-    right = right_row;
-    breaks = too_long nothing 14 (drop 14 saved_front) 1 21 [] (λ h. cc) (omega arith) refl (omega arith);
-  },
-)
+cut_row = inr (14, refl, record {
+  right = right_row;
+  breaks = too_long nothing 14 (drop 14 saved_front) 1 21 [] (λ h. cc) (omega arith) refl (omega arith);
+})
 
 pub changed_row : (rest : List ℕ) → Refuses 1 2 (0x4F ∷ rest) (Damaged 0)
 unfolding header_fault

@@ -1,10 +1,10 @@
 -- What bytes stand for is one thing at most.
-use Rattle.std.proofs.Common.{◌≡◌, ℕ, ◌+◌, ◌≤◌, List, ◌∷◌, ◌++◌, length, refl, sym, ap, ◌∙◌, subst, arith}
+use Rattle.std.proofs.Common.{◌≡◌, ℕ, ◌+◌, ◌≤◌, List, [], ◌∷◌, ◌++◌, length, drop, refl, sym, ap, ◌∙◌, subst, arith}
 use Rattle.ncc_tx.specs.declared.entry.ChangeSet.{ChangeSet}
 use Rattle.ncc_tx.specs.declared.entry.Saved.{Saved}
 use Rattle.ncc_tx.specs.Kept.{MayKeep, part_after, payload}
 use Rattle.ncc_tx.proofs.Changes.{kept}
-use Rattle.ncc_log.specs.Records.{Breaks, MayStandBehind, Stands, closed, here, later, opened, recorded}
+use Rattle.ncc_log.specs.Records.{BeginsWith, Breaks, MayStandBehind, Stands, closed, here, later, opened, recorded}
 use Rattle.ncc_log.proofs.One.{fits_of, one_record}
 
 -- the gate and what stands behind it

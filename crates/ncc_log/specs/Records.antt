@@ -1,6 +1,6 @@
 -- The records of a journal, and what they make of a part that a member keeps. They know no header: a record stands behind a
 -- gate, and what it changes is the part before it.
-use Rattle.std.specs.Prelude.{◌≡◌, ℕ, ◌+◌, ◌≤◌, List, ◌∷◌, ◌++◌, length}
+use Rattle.std.specs.Prelude.{◌≡◌, ℕ, ◌+◌, ◌≤◌, List, [], ◌∷◌, ◌++◌, length}
 use Rattle.std.specs.Int.{w32, to_be_bytes}
 use Rattle.ncc_tx.specs.declared.entry.ChangeSet.{ChangeSet}
 use Rattle.ncc_tx.specs.declared.entry.Saved.{Saved}

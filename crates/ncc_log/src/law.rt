@@ -38,7 +38,7 @@ pub fn record_stands()
     ensures stands { (s t : Saved) (b : List ℕ) (c : ChangeSet) → Stands s b t → MayStandBehind t c →
         (front rest : List ℕ) × (b ≡ front ++ (0 ∷ rest))
         × ((gate : ℕ) (tail : List ℕ) (u : Saved) → (gate ≡ 0 → ⊥) → Stands (part_after t c) tail u →
-        Stands s (front ++ (gate ∷ (recorded c ++ tail))) u) }
+            Stands s (front ++ (gate ∷ (recorded c ++ tail))) u) }
 {}
 
 /// The journal of member 2 of cluster 1: new, and after it saved term 1 and vote 2. Its last byte cut off, its first one

@@ -1,3 +1,5 @@
+use Rattle.ncc_log.proofs.Reach.{reached_next}
+use Rattle.ncc_log.proofs.ItemsRead.{pending_more}
 use Rattle.ncc_log.proofs.Rows.{changed_row, cut_row, foreign_row, new_row, saved_row}
 use Rattle.ncc_log.proofs.law.worked_journal.Goals as goal
 
