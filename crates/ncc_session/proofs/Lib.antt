@@ -1,0 +1,11 @@
+pub mod Lawful
+pub mod Written
+pub mod Inputs
+pub mod Moves
+pub mod Nexts
+pub mod Shaken
+pub mod Talks
+pub mod Shakes
+pub mod Flows
+pub mod Calls
+pub mod Conns
