@@ -61,11 +61,11 @@ fn dict_of_keys(keys: &str, into: &mut Answer) -> Dict {
 
 /// Says of a dictionary with these keys whether it fits, and of a node where it is otherwise.
 fn fit_with_keys(keys: &str, into: &mut Answer) {
-    let dict = Value::Dict(dict_of_keys(keys, into));
-    let node = node_of(Sequence::new(into.alloc), dict_of_keys(keys, into));
-    fit(&dict, into);
+    let dict = dict_of_keys(keys, into);
+    fit(&Value::Dict(dict), into);
     let mut second = Answer::new(into.alloc);
-    fit(&node, &mut second);
+    let props = dict_of_keys(keys, &mut second);
+    fit(&node_of(Sequence::new(into.alloc), props), &mut second);
     if second.text() != into.text() {
         into.put(" and a node ");
         into.add(&second);
@@ -117,25 +117,30 @@ fn also_fits(name: &str, value: &Value, into: &mut Answer) {
     }
 }
 
+fn as_key(count: u64, into: &mut Answer) {
+    let mut pairs = Sequence::new(into.alloc);
+    let key = letters(count, into);
+    into.done(pairs.push((key, Value::Null)));
+    also_fits(", as a key ", &Value::Dict(pairs), into);
+}
+
+fn as_label(count: u64, into: &mut Answer) {
+    let mut labels = Sequence::new(into.alloc);
+    let label = letters(count, into);
+    into.done(labels.push(Value::Text(label)));
+    let node = node_of(labels, Sequence::new(into.alloc));
+    also_fits(", as a label ", &node, into);
+}
+
 /// A text, bytes, a key and a label of so many bytes.
 fn fit_by_size(line: &str, into: &mut Answer) {
     let count = into.number(line);
     let text = letters(count, into);
-    let held = Value::Bytes(into.bytes_of(text.as_str().as_bytes()));
-    let mut pairs = Sequence::new(into.alloc);
-    let key = into.text_of(text.as_str());
-    into.done(pairs.push((key, Value::Null)));
-    let mut labels = Sequence::new(into.alloc);
-    let label = Value::Text(into.text_of(text.as_str()));
-    into.done(labels.push(label));
+    let held = into.bytes_of(text.as_str().as_bytes());
     fit_large(&Value::Text(text), into);
-    also_fits(", as bytes ", &held, into);
-    also_fits(", as a key ", &Value::Dict(pairs), into);
-    also_fits(
-        ", as a label ",
-        &node_of(labels, Sequence::new(into.alloc)),
-        into,
-    );
+    also_fits(", as bytes ", &Value::Bytes(held), into);
+    as_key(count, into);
+    as_label(count, into);
 }
 
 /// Appends what comes of a line.

@@ -150,18 +150,22 @@ fn show_read_request(request: &Request, bytes: &Bytes, into: &mut Answer) {
     written.show_short(bytes, into);
 }
 
-/// Appends the request that bytes are, or its name alone.
-fn answer_of_request(bytes: &Bytes, named: bool, into: &mut Answer) {
-    let request = match read_request(into.alloc, bytes.as_slice()) {
-        Ok(request) => request,
-        Err(error) => return show_refusal(&error, into),
-    };
+/// Appends the copy of a request, or its name alone.
+fn show_copy_of_request(request: &Request, bytes: &Bytes, named: bool, into: &mut Answer) {
     if named {
-        return into.put(request_name(&request));
+        return into.put(request_name(request));
     }
     match request.copy() {
         Ok(copy) => show_read_request(&copy, bytes, into),
         Err(_) => into.lack("more memory"),
+    }
+}
+
+/// Appends the request that bytes are, or its name alone.
+fn answer_of_request(bytes: &Bytes, named: bool, into: &mut Answer) {
+    match read_request(into.alloc, bytes.as_slice()) {
+        Ok(request) => show_copy_of_request(&request, bytes, named, into),
+        Err(error) => show_refusal(&error, into),
     }
 }
 
@@ -176,18 +180,22 @@ fn show_read_response(response: &Response, bytes: &Bytes, into: &mut Answer) {
     written.show_short(bytes, into);
 }
 
-/// Appends the response that bytes are, or its name alone.
-fn answer_of_response(bytes: &Bytes, named: bool, into: &mut Answer) {
-    let response = match read_response(into.alloc, bytes.as_slice()) {
-        Ok(response) => response,
-        Err(error) => return show_refusal(&error, into),
-    };
+/// Appends the copy of a response, or its name alone.
+fn show_copy_of_response(response: &Response, bytes: &Bytes, named: bool, into: &mut Answer) {
     if named {
-        return into.put(response_name(&response));
+        return into.put(response_name(response));
     }
     match response.copy() {
         Ok(copy) => show_read_response(&copy, bytes, into),
         Err(_) => into.lack("more memory"),
+    }
+}
+
+/// Appends the response that bytes are, or its name alone.
+fn answer_of_response(bytes: &Bytes, named: bool, into: &mut Answer) {
+    match read_response(into.alloc, bytes.as_slice()) {
+        Ok(response) => show_copy_of_response(&response, bytes, named, into),
+        Err(error) => show_refusal(&error, into),
     }
 }
 

@@ -130,6 +130,12 @@ fn is_short(alloc: Global, bytes: &[u8]) -> bool {
     matches!(decode(alloc, bytes), Err(PackError::Short))
 }
 
+/// Appends it where bytes are read without the last one of a value.
+fn show_end(bytes: &[u8], len: usize, into: &mut Answer) {
+    let front = bytes.get(..len.saturating_sub(1)).unwrap_or(&[]);
+    into.unless(is_short(into.alloc, front), "read without its last byte: ");
+}
+
 /// Appends the shortest head of a value with these items.
 fn show_head(value: &Value, items: &[u8], into: &mut Answer) {
     let mut short = Bytes::new(into.alloc);
@@ -152,8 +158,7 @@ fn sized(line: &str, into: &mut Answer) {
         Ok((value, len)) => {
             let whole = len == bytes.len() && size_of(&value) as u64 == count;
             into.unless(whole, "of another size: ");
-            let front = bytes.as_slice().get(..len.saturating_sub(1)).unwrap_or(&[]);
-            into.unless(is_short(into.alloc, front), "read without its last byte: ");
+            show_end(bytes.as_slice(), len, into);
             show_head(&value, items.as_slice(), into);
         }
         Err(error) => show_refusal(&error, into),
@@ -193,14 +198,26 @@ fn fronts(line: &str, into: &mut Answer) {
     into.unless(whole, ", and no value");
 }
 
-/// Says whether two values are equal, also as a copy and the other way round.
+/// Says whether a copy of a value equals another one.
+fn are_equal(one: &Value, other: &Value, into: &mut Answer) -> bool {
+    match one.copy() {
+        Ok(copy) => copy.equals(other),
+        Err(_) => {
+            into.lack("more memory");
+            false
+        }
+    }
+}
+
+/// Says nothing where two values are equal, or not, as is wanted, both ways round.
 fn equal_values(line: &str, into: &mut Answer) {
     let wanted = line.contains(" == ");
     let (one, other) = into.sides(line, if wanted { " == " } else { " != " });
     let one = value_of(one, into);
     let other = value_of(other, into);
-    let copy = into.kept(one.copy(), Value::Null);
-    let so = copy.equals(&other) == wanted && other.equals(&one) == wanted;
+    let forth = are_equal(&one, &other, into);
+    let back = are_equal(&other, &one, into);
+    let so = forth == wanted && back == wanted;
     into.unless(so, "otherwise");
 }
 

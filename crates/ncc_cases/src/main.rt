@@ -47,6 +47,20 @@ fn add(found: Count, count: &mut Count) {
     count.differing = count.differing.saturating_add(found.differing);
 }
 
+/// Tries a file of a subject, whose name has the folder in front.
+fn try_file<R: Files + Print + AllocGlobal + Clone + Drop>(
+    rt: &R,
+    top: &str,
+    subject: &str,
+    shown: &str,
+    count: &mut Count,
+) -> io::Result<()> {
+    let path = format!(in rt.alloc(); "{top}/{shown}")?;
+    let text = fs::read_to_string(rt, path.as_str())?;
+    add(try_page(rt, subject, shown, text.as_str())?, count);
+    Ok(())
+}
+
 /// Tries the files of a subject.
 fn try_folder<R: Files + Print + AllocGlobal + Clone + Drop>(
     rt: &R,
@@ -56,10 +70,8 @@ fn try_folder<R: Files + Print + AllocGlobal + Clone + Drop>(
 ) -> io::Result<()> {
     let folder = format!(in rt.alloc(); "{top}/{subject}")?;
     for name in names_in(rt, folder.as_str(), false)? {
-        let path = format!(in rt.alloc(); "{folder}/{name}")?;
-        let text = fs::read_to_string(rt, path.as_str())?;
         let shown = format!(in rt.alloc(); "{subject}/{name}")?;
-        add(try_page(rt, subject, shown.as_str(), text.as_str())?, count);
+        try_file(rt, top, subject, shown.as_str(), count)?;
     }
     Ok(())
 }

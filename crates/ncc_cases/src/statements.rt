@@ -78,13 +78,18 @@ fn show_statement(read: &Statement, source: &str, into: &mut Answer) {
     show_columns(&read.columns, into);
 }
 
-/// Appends what a source is read as, of a copy of the statement.
+/// Appends what is printed of the copy of a statement.
+fn show_copy(read: &Statement, source: &str, into: &mut Answer) {
+    match read.copy() {
+        Ok(copy) => show_statement(&copy, source, into),
+        Err(_) => into.lack("more memory"),
+    }
+}
+
+/// Appends what a source is read as.
 fn read(source: &str, into: &mut Answer) {
     match parse(into.alloc, source) {
-        Ok(read) => match read.copy() {
-            Ok(copy) => show_statement(&copy, source, into),
-            Err(_) => into.lack("more memory"),
-        },
+        Ok(read) => show_copy(&read, source, into),
         Err(error) => {
             into.put("refused: ");
             into.show(&error);
