@@ -11,11 +11,14 @@ use crate::entry::{ChangeSet, Item, Saved};
 use crate::items::payload_len;
 use crate::write::entry_allowed;
 
-const TERM_LIMIT: u64 = 0x4000_0000_0000_0000;
+/// No member has a term from here on: 2^62.
+pub const TERM_LIMIT: u64 = 0x4000_0000_0000_0000;
 
-const MAX_VOTE: u8 = 7;
+/// The greatest number of a core, and so of a vote.
+pub const MAX_VOTE: u8 = 7;
 
-const MAX_ITEMS: usize = 16_777_216;
+/// The greatest length of a log: 2^24 items.
+pub const MAX_ITEMS: u64 = 16_777_216;
 
 const PAYLOAD_LIMIT: u64 = 0x1_0000_0000;
 
@@ -46,8 +49,8 @@ fn all_allowed(items: &[Item]) -> bool
 }
 
 /// The term of the item at a place, from 1; 0 at place 0 and past the end.
-fn term_at(log: &[Item], place: u64) -> u64
-    ensures { result ≡ term_at log.now place }
+pub fn term_at(log: &[Item], place: u64) -> u64
+    ensures term { result ≡ term_at log.now place }
 {
     if place == 0 || place > log.len() as u64 {
         0
@@ -64,7 +67,7 @@ impl Saved {
     {
         self.term < TERM_LIMIT
             && self.vote <= MAX_VOTE
-            && self.log.len() <= MAX_ITEMS
+            && self.log.len() as u64 <= MAX_ITEMS
             && never_falls(0, self.term, self.log.as_slice())
             && all_allowed(self.log.as_slice())
     }

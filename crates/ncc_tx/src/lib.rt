@@ -16,7 +16,10 @@ pub use field::{ItemError, ItemField};
 pub use items::{
     item_len, item_within, items_len, items_within, one_item, one_list, payload_len, read_item,
 };
-pub use kept::{change_leads, kept_on, leads_on, one_change, same_terms, terms_part};
+pub use kept::{
+    MAX_ITEMS, MAX_VOTE, TERM_LIMIT, change_leads, kept_on, leads_on, one_change, same_terms,
+    term_at, terms_part,
+};
 pub use read::{entry_of, one_spelling};
 pub use stamp::{Stamp, stamp_item, stamps_grow};
 pub use validity::{absorb, equal_is_same, state_grows, valid, valid_means};
