@@ -1,10 +1,10 @@
 -- What a disk in memory tells after a write and after a sync.
-use Rattle.std.proofs.Common.{◌≡◌, ◌⊎◌, inl, inr, ℕ, ◌+◌, ◌<◌, ◌≤◌, List, [], ◌∷◌, ◌++◌, length, take, drop, refl, sym, ◌∙◌, ap}
-use Rattle.std.proofs.Common.{subst, arith, Bool, true, false, if◌then◌else◌}
+use Rattle.std.proofs.Common.{◌≡◌, ℕ, ◌≤◌, List, [], ◌∷◌, length, refl, sym, ◌∙◌, ap}
+use Rattle.std.proofs.Common.{subst, Bool, true, false, if◌then◌else◌}
 use Rattle.std.specs.Prelude.{Result, Ok, Err, OnOk, OnErr, is_ok}
-use Rattle.ncc_base.specs.Disk.{Asked, Write, Sync, AsksOneMore, Elapses, Follows, Holds, Only, Stays, Torn}
+use Rattle.ncc_base.specs.Disk.{Write, Sync, AsksOneMore, Elapses, Follows, Holds, Only, Stays, Torn}
 use Rattle.ncc_base.specs.MemDisk.{AskedSince, Content, Device, Done, IsImage, LeftSince, begun, content, course, did_sync, effect}
-use Rattle.ncc_base.specs.MemDisk.{goes, one, with_bytes, writes, wrote}
+use Rattle.ncc_base.specs.MemDisk.{GoesAsSaid, Went, goes, one, run, with_bytes, writes, wrote}
 use Rattle.ncc_base.specs.MemLaws.{sane}
 use Rattle.ncc_base.specs.declared.mem_disk.Course.{Course}
 use Rattle.ncc_base.specs.declared.mem_disk.Course.TheVariants.{Goes, Begins, Fails}
@@ -100,6 +100,21 @@ module _ (old new : Device) (is : new ≡ did_sync old) where
     go : (b : Bool) → goes (course old.setting) ≡ b → IsImage (content old) c
     go true e = subst (λ (l : List ℕ). IsImage (content old) l) (sym (durable_by e c image)) (sane old)
     go false e = subst (λ (k : Content). IsImage k c) (when_not e) image
+
+-- ---- what led from one device to the next
+
+pub went_same : (old new : Device) → new ≡ old → Went old [] new
+unfolding run GoesAsSaid
+went_same old new e = record { device = e; said = tt }
+
+pub went_write : (at : ℕ) (bytes : List ℕ) (old new : Device) (ok : Bool) → new ≡ wrote at bytes old → goes (course old.setting) ≡ ok →
+    Went old (Write at bytes ok ∷ []) new
+unfolding run GoesAsSaid
+went_write at bytes old new ok is e = record { device = is; said = (e, tt) }
+
+pub went_sync : (old new : Device) (ok : Bool) → new ≡ did_sync old → goes (course old.setting) ≡ ok → Went old (Sync ok ∷ []) new
+unfolding run GoesAsSaid
+went_sync old new ok is e = record { device = is; said = (e, tt) }
 
 -- ---- answers
 

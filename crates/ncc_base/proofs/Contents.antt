@@ -1,16 +1,15 @@
 -- What a crash may leave, before and after a call.
-use Rattle.std.proofs.Common.{◌≡◌, ◌⊎◌, inl, inr, ℕ, zero, suc, add-zero, length-take, min, if◌then◌else◌, ◌+◌, ◌-◌, ◌<◌, ◌≤◌, List}
-use Rattle.std.proofs.Common.{[], ◌∷◌, ◌++◌, length, take, drop, get_or, refl, sym, ◌∙◌, ap, subst, arith, length-append}
+use Rattle.std.proofs.Common.{◌≡◌, inl, inr, ℕ, zero, suc, add-zero, length-take, min, if◌then◌else◌, ◌+◌, ◌<◌, ◌≤◌, List}
+use Rattle.std.proofs.Common.{[], ◌∷◌, ◌++◌, length, take, drop, refl, sym, ◌∙◌, ap, arith, length-append}
 use Rattle.std.proofs.Common.{length-drop, append_assoc, Bool, true, false}
-use Rattle.std.specs.Prelude.{nat_le, nat_lt, ◌&&◌, ◌||◌, max}
+use Rattle.std.specs.Prelude.{max}
 use Rattle.std.specs.List.{list_any}
-use Rattle.std.proofs.lemmas.List.{length-take-le, get_or_append_left, get_or-append_right, get_or-take, get_or-drop, take_at}
+use Rattle.std.proofs.lemmas.List.{length-take-le, get_or-take, get_or-drop, take_at}
 use Rattle.std.proofs.lemmas.List.{drop_at, ext_get_or}
 use Rattle.std.proofs.lemmas.List.Folds.{list_any-append}
-use Rattle.std.proofs.lemmas.Bool.{cases_lt}
 use Rattle.std.proofs.lemmas.Bool.Decides.{nat_tests}
-use Rattle.ncc_base.specs.Disk.{Asked, Write, Sync, Torn, Follows, Only}
-use Rattle.ncc_base.specs.MemDisk.{Content, Device, Done, content, IsImage, after, begun, byte_at, effect, is_in, is_written, one}
+use Rattle.ncc_base.specs.Disk.{Write, Sync, Torn, Follows, Only}
+use Rattle.ncc_base.specs.MemDisk.{Content, IsImage, byte_at, effect, is_in, is_written}
 use Rattle.ncc_base.specs.MemDisk.{with_bytes}
 use Rattle.ncc_base.specs.declared.mem_disk.Range.{Range}
 use Rattle.ncc_base.specs.MemLaws.{Sane, both_false, cases_of, long_with}

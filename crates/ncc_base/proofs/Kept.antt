@@ -1,19 +1,15 @@
 -- The lists that a disk in memory keeps, after one call more.
-use Rattle.std.proofs.Common.{◌≡◌, ◌⊎◌, ℕ, ◌+◌, ◌≤◌, List, [], ◌∷◌, ◌++◌, length, take, drop, refl, sym, ◌∙◌, ap, subst, arith}
-use Rattle.std.proofs.Common.{length-append, Bool, true, false}
-use Rattle.std.proofs.lemmas.List.{append-nil}
-use Rattle.ncc_base.specs.Disk.{Asked, Write, Sync}
-use Rattle.std.specs.Prelude.{if◌then◌else◌, min, nat_lt, ◌^◌, ◌<◌}
+use Rattle.std.proofs.Common.{◌≡◌, ℕ, ◌+◌, ◌≤◌, List, [], ◌∷◌, ◌++◌, length, refl, sym, ◌∙◌, ap, subst, arith}
+use Rattle.std.proofs.Common.{length-append, false}
+use Rattle.std.specs.Prelude.{if◌then◌else◌, min, ◌^◌, ◌<◌}
 use Rattle.std.proofs.lemmas.Bool.Decides.{nat_tests}
 use Rattle.ncc_base.specs.Faults.{one_more}
 use Rattle.ncc_base.specs.declared.mem_disk.Setting.{Setting}
-use Rattle.ncc_base.specs.MemDisk.{Content, Device, Done, after, begun, byte_at, course, effect, goes, is_written, next, noted, one}
-use Rattle.ncc_base.specs.MemDisk.{with_bytes}
+use Rattle.ncc_base.specs.MemDisk.{Content, Device, Done, after, begun, byte_at, course, goes, is_written, next, noted, one}
 use Rattle.ncc_base.specs.MemLaws.{sane_content}
 use Rattle.ncc_base.specs.Noted.{IsKept, done, count_of, total, unfolded}
 use Rattle.ncc_base.specs.declared.mem_disk.Range.{Range}
 use Rattle.ncc_base.specs.declared.mem_disk.Noted.{Noted}
-use Rattle.ncc_base.specs.declared.mem_disk.Noted.TheVariants as k
 use Rattle.ncc_base.proofs.Past.{after_more, total_more, unfolded_more}
 
 module _ (base stable seen : List ℕ) (ranges : List Range) (past : List Noted) (flat : List ℕ)

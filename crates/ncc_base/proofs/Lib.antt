@@ -1,7 +1,8 @@
-mod Fronts
+pub mod Fronts
 mod Places
 mod Contents
-mod Past
-mod Calls
+pub mod Past
+pub mod Calls
 mod Kept
-mod Drawn
+pub mod Drawn
+pub mod Runs

@@ -1,9 +1,9 @@
 -- One call more behind those that are kept.
-use Rattle.std.proofs.Common.{◌≡◌, ◌⊎◌, inl, inr, ℕ, ◌+◌, ◌<◌, ◌≤◌, List, [], ◌∷◌, ◌++◌, length, take, drop, map, refl, sym, ◌∙◌}
-use Rattle.std.proofs.Common.{ap, subst, arith, length-append, length-drop, Bool, true, false}
-use Rattle.std.proofs.lemmas.List.{take_all, take-append-le, drop-append-le, append-nil, length-take-le, map-append, drop_all}
+use Rattle.std.proofs.Common.{◌≡◌, inl, inr, ℕ, ◌+◌, ◌≤◌, List, [], ◌∷◌, ◌++◌, length, take, drop, map, refl, sym, ◌∙◌}
+use Rattle.std.proofs.Common.{ap, subst, arith, length-append, length-drop}
+use Rattle.std.proofs.lemmas.List.{take_all, take-append-le, drop-append-le, map-append}
 use Rattle.std.proofs.lemmas.Bool.{cases_eq}
-use Rattle.ncc_base.specs.Disk.{Asked, Elapses, AsksOneMore, AsksNothing}
+use Rattle.ncc_base.specs.Disk.{Asked, Elapses, AsksOneMore}
 use Rattle.ncc_base.specs.MemDisk.{AskedSince, Content, Device, Done, IsImage, LeftSince, after, begun, content, one}
 use Rattle.ncc_base.specs.Noted.{count_of, done, total, unfolded}
 use Rattle.ncc_base.specs.declared.mem_disk.Noted.{Noted}

@@ -124,6 +124,44 @@ wrote at bytes d = noted (record { asked = Write at bytes (goes (course d.settin
 abbrev pub did_sync : Device → Device
 did_sync d = noted (record { asked = Sync (goes (course d.setting)); made = goes (course d.setting) }) d
 
+-- ---- runs
+
+-- a call, which succeeds or fails as the setting says
+abbrev pub called : Asked → Device → Device
+called (Write at bytes ok) d = wrote at bytes d
+called (Sync ok) d = did_sync d
+
+abbrev pub is_said_ok : Asked → Bool
+is_said_ok (Write at bytes ok) = ok
+is_said_ok (Sync ok) = ok
+
+-- one call after the other
+unfoldable pub run : List Asked → Device → Device
+run [] d = d
+run (c ∷ cs) d = run cs (called c d)
+
+-- each call succeeds where it is said to, and no other does
+unfoldable pub GoesAsSaid : List Asked → Device → Type 0
+GoesAsSaid [] d = Unit {0}
+GoesAsSaid (c ∷ cs) d = (goes (course d.setting) ≡ is_said_ok c) × GoesAsSaid cs (called c d)
+
+-- these calls with these outcomes lead from one device to another
+pub record Went (old : Device) (calls : List Asked) (new : Device) : Type 0 where
+  pub device : new ≡ run calls old
+  pub said : GoesAsSaid calls old
+
+-- ---- orders
+
+abbrev pub with_setting : Setting → Device → Device
+with_setting setting d = record { base = d.base; past = d.past; setting = setting; faults = d.faults }
+
+-- to fail, or to stop, at the call of this number from now, where 0 names none
+abbrev pub fails_at : ℕ → Device → Device
+fails_at call d = with_setting (if nat_eq call 0 then Sound else FailAt call) d
+
+abbrev pub stops_at : ℕ → Device → Device
+stops_at call d = with_setting (if nat_eq call 0 then Sound else StopAt call) d
+
 -- ---- crashes
 
 -- the byte at a place is past the old end, or was written since
@@ -141,6 +179,10 @@ drawn g stable ranges p (suc n) = (drawn_byte g stable ranges p).0 ∷ drawn (dr
 
 abbrev pub seeded : ℕ → Lcg
 seeded word = pcg32_of_seed (pcg32_seed 16 word)
+
+-- the first byte that a word draws
+unfoldable pub first_drawn : ℕ → ℕ
+first_drawn word = (pcg32 (seeded word)).0 % 256
 
 -- word 0 leaves what was stable, word 1 what a read gives; any other draws what is pending, at the length that a read gives
 abbrev pub left_by : ℕ → Content → List ℕ

@@ -1,7 +1,7 @@
 -- Laws of a disk in memory: what a read gives is one of the contents that a crash may leave, and this moment counts.
 use Rattle.std.proofs.Common.{◌≡◌, ◌⊎◌, inl, inr, ℕ, ◌+◌, ◌-◌, ◌<◌, ◌≤◌, List, [], ◌∷◌, ◌++◌, length, take, drop, map, get_or, refl}
 use Rattle.std.proofs.Common.{sym, ◌∙◌, ap, subst, arith, length-append, length-drop, length-take, Bool, true, false, if◌then◌else◌}
-use Rattle.std.specs.Prelude.{nat_le, nat_lt, ◌&&◌, ◌||◌, max}
+use Rattle.std.specs.Prelude.{◌||◌, max}
 use Rattle.std.specs.List.{list_any}
 use Rattle.std.proofs.lemmas.List.{length-take-le, get_or_append_left, get_or-append_right, get_or-take, get_or-drop, take_all, drop_all}
 use Rattle.std.proofs.lemmas.List.Folds.{list_any-append}
@@ -9,7 +9,7 @@ use Rattle.std.proofs.lemmas.Bool.{cases_lt}
 use Rattle.std.proofs.lemmas.Bool.Decides.{nat_tests}
 use Rattle.ncc_base.specs.Disk.{Asked, Write, Sync}
 use Rattle.ncc_base.specs.MemDisk.{AskedSince, Content, Device, Done, IsImage, LeftSince, after, begun, byte_at, content, effect}
-use Rattle.ncc_base.specs.MemDisk.{is_in, is_written, one, with_bytes}
+use Rattle.ncc_base.specs.MemDisk.{GoesAsSaid, Went, called, is_in, is_written, one, run, with_bytes}
 use Rattle.ncc_base.specs.declared.mem_disk.Range.{Range}
 
 -- ---- bytes at their places
@@ -161,3 +161,25 @@ only d c left =
 
 pub asked_none : (d : Device) → AskedSince d (length d.past) []
 asked_none d = sym (ap (λ (l : List Done). map (λ (x : Done). x.asked) l) (drop_all (length d.past) d.past (omega arith)))
+
+-- ---- runs
+
+pub run_on : (xs ys : List Asked) (d : Device) → run (xs ++ ys) d ≡ run ys (run xs d)
+unfolding run
+run_on [] ys d = refl
+run_on (x ∷ xs) ys d = run_on xs ys (called x d)
+
+said_on : (xs ys : List Asked) (d : Device) → GoesAsSaid xs d → GoesAsSaid ys (run xs d) → GoesAsSaid (xs ++ ys) d
+unfolding run GoesAsSaid
+said_on [] ys d first second = second
+said_on (x ∷ xs) ys d first second = (first.0, said_on xs ys (called x d) first.1 second)
+
+pub went_none : (d : Device) → Went d [] d
+unfolding run GoesAsSaid
+went_none d = record { device = refl; said = tt }
+
+pub went_on : (a b c : Device) (xs ys : List Asked) → Went a xs b → Went b ys c → Went a (xs ++ ys) c
+went_on a b c xs ys first second = record {
+  device = second.device ∙ ap (run ys) first.device ∙ sym (run_on xs ys a);
+  said = said_on xs ys a first.said (subst (GoesAsSaid ys) first.device second.said);
+}

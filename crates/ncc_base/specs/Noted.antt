@@ -1,7 +1,7 @@
 -- How a disk in memory keeps what it was asked: the bytes of all writes stand in one list.
-use Rattle.std.specs.Prelude.{◌≡◌, ℕ, ◌+◌, ◌<◌, ◌≤◌, List, [], ◌∷◌, length, take, drop, Bool, true, false}
-use Rattle.ncc_base.specs.Disk.{Asked, Write, Sync}
-use Rattle.ncc_base.specs.MemDisk.{Content, Done, after, begun, one}
+use Rattle.std.specs.Prelude.{◌≡◌, ℕ, ◌+◌, List, [], ◌∷◌, length, take, drop}
+use Rattle.ncc_base.specs.Disk.{Write, Sync}
+use Rattle.ncc_base.specs.MemDisk.{Done, after, begun}
 use Rattle.ncc_base.specs.declared.mem_disk.Range.{Range}
 use Rattle.ncc_base.specs.declared.mem_disk.Noted.{Noted}
 use Rattle.ncc_base.specs.declared.mem_disk.Noted.TheVariants as k

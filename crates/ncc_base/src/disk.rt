@@ -1,6 +1,6 @@
 //! Disks: what a file gives, and what a crash may leave of it.
 
-ghost use Rattle.std.specs.Prelude.{◌≡◌, ◌≤◌, ◌+◌, ◌-◌, ℕ, List, [], true, false, length, take, drop, IsOk, IfOk, OnOk, OnErr, IsErrOf};
+ghost use Rattle.std.specs.Prelude.{◌≡◌, ◌≤◌, ◌+◌, ◌-◌, ℕ, List, [], ◌∷◌, ◌++◌, true, false, length, take, drop, IsOk, IfOk, OnOk, OnErr, IsErrOf};
 ghost use Rattle.ncc_base.specs.Faults.{Rose};
 ghost use Rattle.ncc_base.specs.Disk.{Asked, Write, Sync, AsksNothing, AsksOneMore, Elapses, Follows, Holds, Only, Stays, Torn};
 ghost use Rattle.ncc_base.specs.declared.disk.DiskError.TheVariants.{Memory};
@@ -53,6 +53,10 @@ pub trait Disk {
     /// Which writes and syncs were asked since that moment, in order.
     ghost asked_since: { Self → ℕ → List Asked → Type 0 };
 
+    /// These writes and syncs, in this order and with these outcomes, and nothing else lead from that disk to this one. The
+    /// room is no part of it.
+    ghost went: { Self → List Asked → Self → Type 0 };
+
     /// No call can fail now.
     ghost calm: { Self → Type 0 };
 
@@ -71,6 +75,7 @@ pub trait Disk {
         ensures stays { told → Stays (seen self.old) (seen self.new) (may_leave self.old) (may_leave self.new) }
         ensures time { told → Elapses (moment self.old) (moment self.new) (left_since self.old) (left_since self.new) (may_leave self.new) }
         ensures asked { AsksNothing (moment self.old) (asked_since self.old) (asked_since self.new) }
+        ensures went { went self.old [] self.new }
         ensures calm { calm self.old → calm self.new }
         ensures calm_ok { calm self.old → IsOk result }
         ensures never_falls { fault_count self.old ≤ fault_count self.new }
@@ -85,6 +90,7 @@ pub trait Disk {
         ensures stays { told → Stays (seen self.old) (seen self.new) (may_leave self.old) (may_leave self.new) }
         ensures time { told → Elapses (moment self.old) (moment self.new) (left_since self.old) (left_since self.new) (may_leave self.new) }
         ensures asked { AsksNothing (moment self.old) (asked_since self.old) (asked_since self.new) }
+        ensures went { went self.old [] self.new }
         ensures calm { calm self.old → calm self.new }
         ensures calm_ok { calm self.old → IsErrOf result DiskError.Failed → ⊥ }
         ensures never_falls { fault_count self.old ≤ fault_count self.new }
@@ -101,6 +107,7 @@ pub trait Disk {
         ensures stays { told → Stays (seen self.old) (seen self.new) (may_leave self.old) (may_leave self.new) }
         ensures time { told → Elapses (moment self.old) (moment self.new) (left_since self.old) (left_since self.new) (may_leave self.new) }
         ensures asked { AsksNothing (moment self.old) (asked_since self.old) (asked_since self.new) }
+        ensures went { went self.old [] self.new }
         ensures calm { calm self.old → calm self.new }
         ensures faults { fault_count self.new ≡ fault_count self.old }
         ensures room_calls { room_calls self.old ≤ room_calls self.new }
@@ -120,6 +127,8 @@ pub trait Disk {
             (asked_since self.new)) }
         ensures asked_failed { OnErr result (AsksOneMore (moment self.old) (Write at bytes.now false) (asked_since self.old)
             (asked_since self.new)) }
+        ensures went { OnOk result (went self.old (Write at bytes.now true ∷ []) self.new) }
+        ensures went_failed { OnErr result (went self.old (Write at bytes.now false ∷ []) self.new) }
         ensures calm { calm self.old → calm self.new }
         ensures calm_ok { calm self.old → IsOk result }
         ensures never_falls { fault_count self.old ≤ fault_count self.new }
@@ -137,6 +146,8 @@ pub trait Disk {
         ensures time { told → Elapses (moment self.old) (moment self.new) (left_since self.old) (left_since self.new) (may_leave self.new) }
         ensures asked { OnOk result (AsksOneMore (moment self.old) (Sync true) (asked_since self.old) (asked_since self.new)) }
         ensures asked_failed { OnErr result (AsksOneMore (moment self.old) (Sync false) (asked_since self.old) (asked_since self.new)) }
+        ensures went { OnOk result (went self.old (Sync true ∷ []) self.new) }
+        ensures went_failed { OnErr result (went self.old (Sync false ∷ []) self.new) }
         ensures calm { calm self.old → calm self.new }
         ensures calm_ok { calm self.old → IsOk result }
         ensures never_falls { fault_count self.old ≤ fault_count self.new }
@@ -162,13 +173,26 @@ pub trait Disk {
 
     /// There is one list of what was asked.
     ghost asked_once: { (disk : Self) (t : ℕ) (a b : List Asked) → told → asked_since disk t a → asked_since disk t b → a ≡ b };
+
+    /// No call leads from a disk to itself.
+    ghost went_none: { (disk : Self) → went disk [] disk };
+
+    /// Calls lead on from where earlier ones led.
+    ghost went_on: { (a b c : Self) (xs ys : List Asked) → went a xs b → went b ys c → went a (xs ++ ys) c };
 }
 
 /// A disk that fails or stops where it is told to. A setting takes the place of an earlier one and changes nothing that a
 /// `Disk` tells. Writes and syncs alone are counted; the number 0 names no call.
 pub trait Armed: Disk {
+    /// The setting to fail at the call of this number, and nothing else, leads from that disk to this one.
+    ghost set_to_fail: { Self → ℕ → Self → Type 0 };
+
+    /// The same of the setting to stop.
+    ghost set_to_stop: { Self → ℕ → Self → Type 0 };
+
     /// The `call`-th write or sync from now fails without effect.
     fn fail_at(&mut self, call: u64)
+        ensures exact { set_to_fail self.old call self.new }
         ensures stays { Self.told → Stays (Self.seen self.old) (Self.seen self.new) (Self.may_leave self.old) (Self.may_leave self.new) }
         ensures moment { Self.moment self.new ≡ Self.moment self.old }
         ensures left { Self.told → (t : ℕ) (c : List ℕ) → Self.left_since self.new t c → Self.left_since self.old t c }
@@ -179,6 +203,7 @@ pub trait Armed: Disk {
 
     /// The `call`-th write or sync from now begins and fails, and so does every later one.
     fn stop_at(&mut self, call: u64)
+        ensures exact { set_to_stop self.old call self.new }
         ensures stays { Self.told → Stays (Self.seen self.old) (Self.seen self.new) (Self.may_leave self.old) (Self.may_leave self.new) }
         ensures moment { Self.moment self.new ≡ Self.moment self.old }
         ensures left { Self.told → (t : ℕ) (c : List ℕ) → Self.left_since self.new t c → Self.left_since self.old t c }

@@ -91,6 +91,8 @@ impl Disk for FileDisk {
 
     ghost asked_since = { λ _ _ _. Unit {0} };
 
+    ghost went = { λ _ _ _. Unit {0} };
+
     ghost calm = { λ _. ⊥ };
 
     ghost fault_count = { λ faults. faults };
@@ -149,4 +151,8 @@ impl Disk for FileDisk {
     ghost asked_nothing_now = { λ _. tt };
 
     ghost asked_once = { λ _ _ _ _ told _ _. absurd told };
+
+    ghost went_none = { λ _. tt };
+
+    ghost went_on = { λ _ _ _ _ _ _ _. tt };
 }

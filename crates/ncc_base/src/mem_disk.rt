@@ -7,7 +7,7 @@ ghost use Rattle.ncc_base.specs.Faults.{Rose};
 ghost use Rattle.ncc_base.specs.Disk.{AsksOneMore, Elapses, Follows, Holds, Only, Stays, Sync, Torn, Write};
 ghost use Rattle.ncc_base.specs.MemDisk.{AskedSince, IsImage, LeftSince, MemState, begun, byte_at, content, course, crashed};
 ghost use Rattle.ncc_base.specs.MemDisk.{did_sync, drawn, drawn_byte, goes, is_in, is_pending, is_written, left_by, next, seeded};
-ghost use Rattle.ncc_base.specs.MemDisk.{writes, wrote};
+ghost use Rattle.ncc_base.specs.MemDisk.{Went, writes, wrote};
 
 use crate::bytes::Bytes;
 use crate::disk::{Armed, Disk, DiskError};
@@ -294,9 +294,9 @@ impl MemDisk {
 impl Disk for MemDisk {
     ghost use Rattle.std.specs.Prelude.{◌≡◌, length};
     ghost use Rattle.std.proofs.Common.{◌∙◌, sym};
-    ghost use Rattle.ncc_base.specs.MemDisk.{AskedSince, IsImage, LeftSince, content};
+    ghost use Rattle.ncc_base.specs.MemDisk.{AskedSince, IsImage, LeftSince, Went, content};
     ghost use Rattle.ncc_base.specs.declared.mem_disk.Setting.TheVariants.{Sound};
-    ghost use Rattle.ncc_base.specs.MemLaws.{asked_none, counts, only, sane};
+    ghost use Rattle.ncc_base.specs.MemLaws.{asked_none, counts, only, sane, went_none, went_on};
 
     ghost told = { Unit {0} };
 
@@ -309,6 +309,8 @@ impl Disk for MemDisk {
     ghost left_since = { λ m. LeftSince m.device };
 
     ghost asked_since = { λ m. AskedSince m.device };
+
+    ghost went = { λ a calls b. Went a.device calls b.device };
 
     ghost calm = { λ m. m.device.setting ≡ Sound };
 
@@ -354,6 +356,8 @@ impl Disk for MemDisk {
             (AskedSince self.old.device) (AskedSince self.new.device)) }
         ensures asked_failed { OnErr result (AsksOneMore (length self.old.device.past) (Write at bytes.now false)
             (AskedSince self.old.device) (AskedSince self.new.device)) }
+        ensures went { OnOk result (Went self.old.device (Write at bytes.now true ∷ []) self.new.device) }
+        ensures went_failed { OnErr result (Went self.old.device (Write at bytes.now false ∷ []) self.new.device) }
         ensures calm { self.old.device.setting ≡ Setting.Sound → self.new.device.setting ≡ Setting.Sound }
         ensures calm_ok { self.old.device.setting ≡ Setting.Sound → IsOk result }
         ensures never_falls { self.old.device.faults ≤ self.new.device.faults }
@@ -381,6 +385,8 @@ impl Disk for MemDisk {
             (AskedSince self.new.device)) }
         ensures asked_failed { OnErr result (AsksOneMore (length self.old.device.past) (Sync false) (AskedSince self.old.device)
             (AskedSince self.new.device)) }
+        ensures went { OnOk result (Went self.old.device (Sync true ∷ []) self.new.device) }
+        ensures went_failed { OnErr result (Went self.old.device (Sync false ∷ []) self.new.device) }
         ensures calm { self.old.device.setting ≡ Setting.Sound → self.new.device.setting ≡ Setting.Sound }
         ensures calm_ok { self.old.device.setting ≡ Setting.Sound → IsOk result }
         ensures never_falls { self.old.device.faults ≤ self.new.device.faults }
@@ -405,9 +411,20 @@ impl Disk for MemDisk {
     ghost asked_nothing_now = { λ m. asked_none m.device };
 
     ghost asked_once = { λ m t a b told x y. x ∙ sym y };
+
+    ghost went_none = { λ m. went_none m.device };
+
+    ghost went_on = { λ a b c xs ys first second. went_on a.device b.device c.device xs ys first second };
 }
 
 impl Armed for MemDisk {
+    ghost use Rattle.std.specs.Prelude.{◌≡◌};
+    ghost use Rattle.ncc_base.specs.MemDisk.{fails_at, stops_at};
+
+    ghost set_to_fail = { λ a call b. b.device ≡ fails_at call a.device };
+
+    ghost set_to_stop = { λ a call b. b.device ≡ stops_at call a.device };
+
     fn fail_at(&mut self, call: u64) {
         self.setting = if call == 0 {
             Setting::Sound

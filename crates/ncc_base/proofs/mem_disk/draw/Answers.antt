@@ -1,6 +1,6 @@
-use Rattle.std.proofs.Common.{◌≡◌, ◌∙◌, ◌∷◌, ◌++◌, ◌+◌, ◌-◌, [], ℕ, List, ap, sym, arith, append_assoc}
+use Rattle.std.proofs.Common.{◌∙◌, ◌∷◌, ◌++◌, ◌+◌, ◌-◌, [], ℕ, List, ap, sym, arith, append_assoc}
 use Rattle.std.proofs.lemmas.List.{append-nil}
-use Rattle.ncc_base.specs.MemDisk.{drawn, seeded}
+use Rattle.ncc_base.specs.MemDisk.{drawn}
 use Rattle.ncc_base.proofs.Drawn.{drawn_more, drawn_none}
 use Rattle.ncc_base.proofs.mem_disk.draw.Goals as goal
 

@@ -1,4 +1,4 @@
-use Rattle.std.proofs.Common.{◌≡◌, ◌∙◌, ℕ, List, [], length, drop, false, ap, sym, refl, arith, vec_len}
+use Rattle.std.proofs.Common.{◌≡◌, List, [], drop, ap, arith}
 use Rattle.std.proofs.lemmas.List.{ext_get_or, drop_all}
 use Rattle.ncc_base.specs.declared.mem_disk.Range.{Range}
 use Rattle.ncc_base.specs.MemDisk.{is_written}

@@ -1,4 +1,4 @@
-use Rattle.std.proofs.Common.{◌≡◌, ◌∙◌, ℕ, List, ap, sym, subst, arith}
+use Rattle.std.proofs.Common.{◌≡◌, ◌∙◌, ℕ, List, ap, sym, arith}
 use Rattle.ncc_base.specs.MemDisk.{Content, Device, MemState, content, crashed, left_by}
 use Rattle.ncc_base.specs.Noted.{unfolded}
 use Rattle.ncc_base.specs.declared.mem_disk.Range.{Range}

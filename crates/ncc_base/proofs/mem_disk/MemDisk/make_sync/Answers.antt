@@ -1,12 +1,11 @@
-use Rattle.std.proofs.Common.{rules, ◌≡◌, ℕ, List, [], ◌∷◌, ◌++◌, ◌≤◌, ◌+◌, length, Bool, true, false, refl, sym, ◌∙◌, ap, subst}
-use Rattle.std.proofs.Common.{arith, vec_len, vec_capacity}
+use Rattle.std.proofs.Common.{rules, ◌≡◌, ℕ, List, [], ◌∷◌, ◌++◌, length, Bool, true, false, refl, sym, ◌∙◌, ap}
+use Rattle.std.proofs.Common.{arith}
 use Rattle.std.proofs.lemmas.List.{append-nil}
 use Rattle.std.specs.Prelude.{if◌then◌else◌}
 use Rattle.ncc_base.specs.Faults.{one_more}
 use Rattle.ncc_base.specs.Disk.{Sync}
-use Rattle.ncc_base.specs.MemDisk.{Content, Device, Done, MemState, byte_at, course, did_sync, goes, is_written, next, one}
+use Rattle.ncc_base.specs.MemDisk.{Device, Done, MemState, byte_at, course, did_sync, goes, is_written, next, one}
 use Rattle.ncc_base.specs.Noted.{unfolded}
-use Rattle.ncc_base.specs.declared.mem_disk.Course.{Course}
 use Rattle.ncc_base.specs.declared.mem_disk.Range.{Range}
 use Rattle.ncc_base.specs.declared.mem_disk.Setting.{Setting}
 use Rattle.ncc_base.specs.declared.mem_disk.Noted.TheVariants as k

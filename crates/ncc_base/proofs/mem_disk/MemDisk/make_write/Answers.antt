@@ -1,13 +1,10 @@
-use Rattle.std.proofs.Common.{rules, ◌≡◌, ℕ, List, [], ◌∷◌, ◌++◌, length, Bool, true, false, refl, sym, ◌∙◌, ap, subst, arith}
-use Rattle.std.proofs.Common.{vec_len, vec_capacity, ◌≤◌, ◌+◌}
+use Rattle.std.proofs.Common.{rules, ◌≡◌, ℕ, List, [], ◌∷◌, ◌++◌, length, Bool, true, false, refl, sym, ◌∙◌, ap, arith}
 use Rattle.std.specs.Prelude.{if◌then◌else◌}
-use Rattle.std.proofs.lemmas.Bool.Decides.{nat_tests}
 use Rattle.ncc_base.specs.Faults.{one_more}
 use Rattle.ncc_base.specs.Disk.{Write}
-use Rattle.ncc_base.specs.MemDisk.{Content, Device, Done, course, goes, next, noted, one, with_bytes, writes, wrote, MemState}
-use Rattle.ncc_base.specs.Noted.{IsKept, done, unfolded}
+use Rattle.ncc_base.specs.MemDisk.{Device, Done, course, goes, next, one, with_bytes, writes, wrote, MemState}
+use Rattle.ncc_base.specs.Noted.{unfolded}
 use Rattle.ncc_base.specs.declared.mem_disk.Course.{Course}
-use Rattle.ncc_base.specs.declared.mem_disk.Course.TheVariants.{Goes, Begins, Fails}
 use Rattle.ncc_base.specs.declared.mem_disk.Setting.{Setting}
 use Rattle.ncc_base.specs.declared.mem_disk.Noted.TheVariants as k
 use Rattle.ncc_base.specs.declared.mem_disk.Range.{Range}

@@ -1,4 +1,4 @@
-use Rattle.std.proofs.Common.{◌≡◌, ◌∙◌, sym, arith}
+use Rattle.std.proofs.Common.{◌∙◌, sym, arith}
 use Rattle.ncc_base.specs.declared.mem_disk.Setting.TheVariants.{Sound}
 use Rattle.ncc_base.proofs.Kept.{device_from, kept_from}
 use Rattle.ncc_base.proofs.mem_disk.MemDisk.new.Goals as goal
