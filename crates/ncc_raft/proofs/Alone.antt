@@ -1,21 +1,20 @@
 -- Where something is noted, nothing is sent, and log and commit stay.
-use Rattle.std.proofs.Common.{◌≡◌, ◌≢◌, ℕ, ◌+◌, ◌-◌, Bool, true, false, min, List, [], ◌∷◌, length, Option, Some, None, refl, sym, ap}
-use Rattle.std.proofs.Common.{◌∙◌, subst}
+use Rattle.std.proofs.Common.{◌≡◌, ◌≢◌, ℕ, ◌+◌, ◌-◌, Bool, true, false, min, List, [], ◌∷◌, length, Option, Some, None, refl, sym}
+use Rattle.std.proofs.Common.{◌∙◌}
 use Rattle.std.specs.Prelude.{nat_eq, nat_lt, ◌&&◌, if◌then◌else◌}
 use Rattle.ncc_tx.specs.declared.entry.Item.{Item}
 use Rattle.ncc_raft.specs.declared.message.Body.{Body}
 use Rattle.ncc_raft.specs.declared.message.Body.TheVariants.{VoteAsk, VoteReply, Append, AppendReply, Pull, Batch}
 use Rattle.ncc_raft.specs.declared.message.Envelope.{Envelope}
-use Rattle.ncc_raft.specs.declared.message.Note.{Note}
-use Rattle.ncc_raft.specs.declared.message.Note.TheVariants.{Beyond, Contradicted, Nothing, TermsSpent}
+use Rattle.ncc_raft.specs.declared.message.Note.TheVariants.{Beyond, Nothing, TermsSpent}
 use Rattle.ncc_raft.specs.Member.{Seat, Member, Outcome, Timeout, Beat, Receive, Propose, is_candidate, is_leader, notes, sends, still}
 use Rattle.ncc_raft.specs.Logs.{Conflict}
 use Rattle.ncc_raft.specs.Elections.{asks, counted, is_elected, is_spent, may_vote, raised, timed_out, voted, won}
 use Rattle.ncc_raft.specs.Appending.{added, advanced, appends, follows, has_prev, took, contradicted}
-use Rattle.ncc_raft.specs.Laws.{MayCome, NotesAlone, OnlyNoted}
+use Rattle.ncc_raft.specs.Laws.{NotesAlone, OnlyNoted}
 use Rattle.ncc_raft.specs.Step.{answered, append_reply, heard, lifted, may_add, offered, on_append, on_append_reply, on_beat, on_body}
 use Rattle.ncc_raft.specs.Step.{on_propose}
-use Rattle.ncc_raft.specs.Step.{on_timeout, on_vote_ask, on_vote_reply, settled, step, tallied, term_in, took_or_not, unless, vote_reply}
+use Rattle.ncc_raft.specs.Step.{on_timeout, on_vote_ask, on_vote_reply, settled, step, term_in, took_or_not, unless, vote_reply}
 
 -- a note stands alone, and comes to none that leads
 record Alone (m : Member) (o : Outcome) : Type 0 where

@@ -1,13 +1,13 @@
 -- What is applied stays.
-use Rattle.std.proofs.Common.{◌≡◌, ◌≢◌, ℕ, zero, suc, ◌+◌, ◌-◌, ◌<◌, ◌≤◌, Bool, true, false, min, max, List, [], ◌∷◌, ◌++◌, length, take}
-use Rattle.std.proofs.Common.{drop, Option, Some, None, refl, sym, ap, ◌∙◌, subst, arith, ◌⊎◌, inl, inr, length-append}
-use Rattle.std.specs.Prelude.{nat_eq, nat_le, not, ◌&&◌, slice_get, if◌then◌else◌}
-use Rattle.std.proofs.lemmas.Bool.{and_parts, cases_eq, cases_lt, eqb-true, eqb-false, le-leb, eq-eqb, ne_eqb}
+use Rattle.std.proofs.Common.{◌≡◌, ℕ, zero, suc, ◌+◌, ◌-◌, ◌<◌, ◌≤◌, Bool, List, [], ◌∷◌, ◌++◌, length, take}
+use Rattle.std.proofs.Common.{drop, None, refl, sym, ap, ◌∙◌, subst, arith, inl, inr, length-append}
+use Rattle.std.specs.Prelude.{if◌then◌else◌}
+use Rattle.std.proofs.lemmas.Bool.{cases_eq, cases_lt, eq-eqb}
 use Rattle.std.proofs.lemmas.List.{length-take}
 use Rattle.std.proofs.lemmas.Option.{none-some}
 use Rattle.ncc_tx.specs.declared.entry.Item.{Item}
-use Rattle.ncc_tx.specs.Kept.{term_at, term_of, terms}
-use Rattle.ncc_raft.specs.Logs.{Conflict, accepted, first_conflict, merged}
+use Rattle.ncc_tx.specs.Kept.{term_at, terms}
+use Rattle.ncc_raft.specs.Logs.{accepted, first_conflict, merged}
 use Rattle.ncc_raft.proofs.Conflicts.{conflict_here, conflict_past, conflict_same}
 
 -- the told terms are those of the log, from a place on, as far as the last one

@@ -1,21 +1,21 @@
 -- Nothing goes back, rule by rule.
-use Rattle.std.proofs.Common.{◌≡◌, ◌≢◌, ℕ, zero, suc, ◌+◌, ◌-◌, ◌<◌, ◌≤◌, Bool, true, false, min, max, List, [], ◌∷◌, ◌++◌, length, take}
-use Rattle.std.proofs.Common.{drop, Option, Some, None, refl, sym, ap, ◌∙◌, subst, arith, ◌⊎◌, inl, inr}
-use Rattle.std.specs.Prelude.{IsTrue, nat_eq, nat_le, nat_lt, not, ◌&&◌, ◌||◌, if◌then◌else◌}
-use Rattle.std.proofs.lemmas.Bool.{and_parts, eqb-true, false≢true, leb-true, ltb-true, ltb-false, or_cases}
-use Rattle.std.proofs.lemmas.List.{append-nil, take-append-le, take-take}
+use Rattle.std.proofs.Common.{◌≡◌, ◌≢◌, ℕ, ◌+◌, ◌-◌, ◌<◌, ◌≤◌, Bool, true, false, min, List, [], ◌∷◌, ◌++◌, length, take}
+use Rattle.std.proofs.Common.{Option, Some, None, refl, sym, ap, ◌∙◌, arith, inl, inr}
+use Rattle.std.specs.Prelude.{IsTrue, nat_eq, nat_le, nat_lt, ◌&&◌, ◌||◌, if◌then◌else◌}
+use Rattle.std.proofs.lemmas.Bool.{and_parts, eqb-true, false≢true, leb-true, ltb-true, or_cases}
+use Rattle.std.proofs.lemmas.List.{append-nil, take-append-le}
 use Rattle.ncc_tx.specs.declared.entry.Item.{Item}
 use Rattle.ncc_tx.specs.Kept.{term_at, terms}
 use Rattle.ncc_raft.specs.declared.message.Body.{Body}
 use Rattle.ncc_raft.specs.declared.message.Body.TheVariants.{VoteAsk, VoteReply, Append, AppendReply, Pull, Batch}
 use Rattle.ncc_raft.specs.declared.message.Note.TheVariants.{Beyond, TermsSpent}
-use Rattle.ncc_raft.specs.Member.{Seat, Member, Outcome, is_candidate, is_core, is_leader, notes, sends, still}
-use Rattle.ncc_raft.specs.Logs.{accepted, first_conflict, up_to_date}
+use Rattle.ncc_raft.specs.Member.{Seat, Member, Outcome, is_candidate, is_leader, notes, sends, still}
+use Rattle.ncc_raft.specs.Logs.{first_conflict, up_to_date}
 use Rattle.ncc_raft.specs.Elections.{asks, counted, is_elected, is_spent, may_vote, noop_of, raised, timed_out, voted, won}
 use Rattle.ncc_raft.specs.Appending.{added, advanced, appends, follows, has_prev, noted, took, contradicted}
-use Rattle.ncc_raft.specs.Core.{IsSeat, IsSound}
+use Rattle.ncc_raft.specs.Core.{IsSound}
 use Rattle.ncc_raft.specs.Laws.{NeverBack}
-use Rattle.ncc_raft.specs.Step.{answered, append_reply, hears_from, lifted, may_add, offered, on_append, on_append_reply, on_beat}
+use Rattle.ncc_raft.specs.Step.{answered, append_reply, lifted, may_add, offered, on_append, on_append_reply, on_beat}
 use Rattle.ncc_raft.specs.Step.{on_body, on_propose}
 use Rattle.ncc_raft.specs.Step.{on_timeout, on_vote_ask, on_vote_reply, settled, tallied, term_in, took_or_not, unless, vote_reply}
 use Rattle.ncc_raft.proofs.Applied.{applied_stays}

@@ -1,6 +1,6 @@
 -- What a core sends can be carried.
-use Rattle.std.proofs.Common.{◌≡◌, ℕ, zero, suc, ◌+◌, ◌-◌, ◌*◌, ◌^◌, ◌<◌, ◌≤◌, Bool, true, false, min, max, List, [], ◌∷◌, ◌++◌, length}
-use Rattle.std.proofs.Common.{take, drop, Option, Some, None, refl, sym, ap, ◌∙◌, subst, arith, ◌⊎◌, inl, inr, get_or, length-append}
+use Rattle.std.proofs.Common.{◌≡◌, ℕ, zero, suc, ◌+◌, ◌-◌, ◌*◌, ◌^◌, ◌<◌, ◌≤◌, Bool, true, false, min, List, [], ◌∷◌, length}
+use Rattle.std.proofs.Common.{drop, Option, Some, None, refl, arith, length-append}
 use Rattle.std.specs.Prelude.{IsTrue, map, nat_eq, nat_le, nat_lt, not, ◌&&◌, if◌then◌else◌}
 use Rattle.std.specs.List.{All, filter, range_with_len}
 use Rattle.std.proofs.lemmas.Bool.{and_from, and_parts, le-leb, leb-true, lt-ltb, ltb-false, ltb-true}
@@ -12,21 +12,19 @@ use Rattle.ncc_tx.proofs.ItemBytes.{length_counted, length_item}
 use Rattle.ncc_raft.specs.declared.message.Body.{Body}
 use Rattle.ncc_raft.specs.declared.message.Body.TheVariants.{VoteAsk, VoteReply, Append, AppendReply, Pull, Batch}
 use Rattle.ncc_raft.specs.declared.message.Envelope.{Envelope}
-use Rattle.ncc_raft.specs.declared.message.Note.{Note}
 use Rattle.ncc_raft.specs.declared.message.Note.TheVariants.{Beyond, TermsSpent}
-use Rattle.ncc_raft.specs.declared.message.RaftRole.TheVariants.{Follower}
-use Rattle.ncc_raft.specs.Member.{Seat, Member, Outcome, cores_of, is_candidate, is_core, is_leader, next_of, notes, sends, still}
+use Rattle.ncc_raft.specs.Member.{Seat, Member, Outcome, is_candidate, is_core, is_leader, next_of, notes, sends, still}
 use Rattle.ncc_raft.specs.Logs.{allowed_front, entry_size, front_within, last_term}
 use Rattle.ncc_raft.specs.Elections.{ask_to, asks, counted, is_elected, is_spent, may_vote, timed_out, voted, won}
-use Rattle.ncc_raft.specs.Appending.{added, advanced, append_behind, append_to, appends, applied, batch, follows, has_prev, noted, others}
+use Rattle.ncc_raft.specs.Appending.{added, advanced, append_behind, append_to, appends, applied, batch, follows, has_prev, noted}
 use Rattle.ncc_raft.specs.Appending.{took, contradicted}
 use Rattle.ncc_raft.specs.Carried.{Carried, FitBehind, IsNumber, IsWithin}
 use Rattle.ncc_raft.specs.Core.{IsSeat, IsSound}
 use Rattle.ncc_raft.specs.Laws.{Ascends}
 use Rattle.ncc_raft.specs.Step.{answered, append_reply, hears_from, may_add, offered, on_append, on_append_reply, on_beat, on_body}
 use Rattle.ncc_raft.specs.Step.{on_propose}
-use Rattle.ncc_raft.specs.Step.{on_timeout, on_vote_ask, on_vote_reply, settled, tallied, term_in, took_or_not, unless, vote_reply}
-use Rattle.ncc_raft.proofs.Falls.{at_le, falls_behind, falls_front}
+use Rattle.ncc_raft.specs.Step.{on_timeout, on_vote_ask, on_vote_reply, settled, tallied, took_or_not, unless, vote_reply}
+use Rattle.ncc_raft.proofs.Falls.{at_le, falls_behind}
 use Rattle.ncc_raft.proofs.Sound as sound
 
 -- ---- the front of a list

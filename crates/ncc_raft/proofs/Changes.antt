@@ -1,11 +1,11 @@
 -- Which change leads from what was kept to what is kept then.
-use Rattle.std.proofs.Common.{◌≡◌, ◌≢◌, ℕ, ◌≤◌, List, [], ◌∷◌, ◌++◌, length, take, drop, Option, Some, None, refl, sym, ap, ◌∙◌, subst}
+use Rattle.std.proofs.Common.{◌≡◌, ℕ, ◌≤◌, List, [], ◌∷◌, ◌++◌, length, take, drop, Some, None, refl, sym, ap, ◌∙◌, subst}
 use Rattle.std.proofs.Common.{arith}
-use Rattle.std.proofs.lemmas.List.{append-nil, drop_all, drop_at, length-take-le, take_all}
+use Rattle.std.proofs.lemmas.List.{drop_all, drop_at, length-take-le, take_all}
 use Rattle.ncc_tx.specs.declared.entry.ChangeSet.{ChangeSet}
 use Rattle.ncc_tx.specs.declared.entry.Item.{Item}
 use Rattle.ncc_tx.specs.declared.entry.Saved.{Saved}
-use Rattle.ncc_tx.specs.Kept.{IsChange, Leads, Parted, Shared, part_after}
+use Rattle.ncc_tx.specs.Kept.{Leads, Parted}
 use Rattle.ncc_tx.proofs.Changes.{leads_after}
 
 -- ---- the log stays

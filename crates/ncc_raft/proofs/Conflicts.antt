@@ -1,6 +1,6 @@
 -- The first place at which another term was told.
-use Rattle.std.proofs.Common.{◌≡◌, ℕ, zero, suc, ◌+◌, ◌-◌, ◌<◌, ◌≤◌, Bool, true, false, List, [], ◌∷◌, length, get_or, take, drop, Option}
-use Rattle.std.proofs.Common.{Some, None, refl, sym, ap, ◌∙◌, subst, arith, cond}
+use Rattle.std.proofs.Common.{◌≡◌, ℕ, suc, ◌+◌, ◌<◌, ◌≤◌, Bool, true, false, List, [], ◌∷◌, length, get_or, drop, Option}
+use Rattle.std.proofs.Common.{Some, None, refl, sym, ap, ◌∙◌, arith}
 use Rattle.std.specs.Prelude.{IfNone, IfSome, nat_eq, nat_le, not, ◌&&◌, if◌then◌else◌}
 use Rattle.std.proofs.lemmas.Bool.{le-leb, lt-leb, eq-eqb, ne_eqb}
 use Rattle.std.proofs.lemmas.List.{drop_all, drop_more}
@@ -135,3 +135,5 @@ pub prev_none : (log : List Item) (last place kept t : ℕ) (b : Bool) (items : 
     IfNone r (first_conflict log last (place + 1) (terms items) ≡ None) → IfNone r (first_conflict log last place (t ∷ terms items) ≡ None)
 prev_none log last place kept t b items None e f g h = not_prev log last place kept t b items e f g ∙ h
 prev_none log last place kept t b items (Some x) e f g h = h
+
+pub ruleset of_passed = (passed_none, passed_far, passed_same, passed_found, passed_all)

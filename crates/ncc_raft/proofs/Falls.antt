@@ -1,6 +1,5 @@
 -- Terms that don't fall.
-use Rattle.std.proofs.Common.{◌≡◌, ℕ, zero, suc, ◌+◌, ◌<◌, ◌≤◌, List, [], ◌∷◌, ◌++◌, length, take, drop, refl, sym, ap, ◌∙◌, subst, arith}
-use Rattle.std.proofs.Common.{◌⊎◌, inl, inr}
+use Rattle.std.proofs.Common.{ℕ, zero, suc, ◌<◌, ◌≤◌, List, [], ◌∷◌, ◌++◌, length, take, drop, arith}
 use Rattle.std.specs.Prelude.{slice_get}
 use Rattle.ncc_tx.specs.declared.entry.Entry.{Entry}
 use Rattle.ncc_tx.specs.declared.entry.Item.{Item}

@@ -1,7 +1,7 @@
 -- What a frame can carry, item by item.
 use Rattle.ncc_tx.proofs.ItemBytes as bytes
 use Rattle.ncc_tx.proofs.Terms as terms
-use Rattle.std.proofs.Common.{◌≡◌, ℕ, ◌+◌, ◌^◌, ◌<◌, Bool, List, length, get_or, take, subst, sym, arith}
+use Rattle.std.proofs.Common.{◌≡◌, ℕ, ◌+◌, ◌^◌, ◌<◌, Bool, List, length, get_or, take, subst, sym}
 use Rattle.std.specs.List.{All}
 use Rattle.std.proofs.lemmas.Bool.{lt-ltb, ltb-true}
 use Rattle.std.specs.Prelude.{IsTrue, nat_lt}

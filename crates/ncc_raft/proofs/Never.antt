@@ -1,11 +1,11 @@
 -- Nothing goes back at a step.
-use Rattle.std.proofs.Common.{◌≡◌, ℕ, Bool, true, false, refl}
+use Rattle.std.proofs.Common.{Bool, true, false, refl}
 use Rattle.std.specs.Prelude.{if◌then◌else◌}
 use Rattle.ncc_raft.specs.declared.message.Envelope.{Envelope}
 use Rattle.ncc_raft.specs.Member.{Seat, Member, Timeout, Beat, Receive, Propose, still}
 use Rattle.ncc_raft.specs.Carried.{Carried}
-use Rattle.ncc_raft.specs.Core.{IsSeat, IsSound}
-use Rattle.ncc_raft.specs.Laws.{MayCome, NeverBack, NeverGoesBack}
+use Rattle.ncc_raft.specs.Core.{IsSound}
+use Rattle.ncc_raft.specs.Laws.{NeverBack, NeverGoesBack}
 use Rattle.ncc_raft.specs.Step.{heard, lifted, on_beat, on_body, on_propose, on_timeout, settled, step}
 use Rattle.ncc_raft.proofs.Back as back
 use Rattle.ncc_raft.proofs.Sound as sound

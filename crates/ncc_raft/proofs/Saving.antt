@@ -1,24 +1,21 @@
 -- The change of a step may follow what was kept, and its items are the last of those that the event brings.
-use Rattle.std.proofs.Common.{◌≡◌, ◌≢◌, ℕ, zero, suc, ◌+◌, ◌-◌, ◌*◌, ◌^◌, ◌<◌, ◌≤◌, Bool, true, false, min, max, List, [], ◌∷◌, ◌++◌}
-use Rattle.std.proofs.Common.{length, take, drop, Option, Some, None, refl, sym, ap, ◌∙◌, subst, arith, ◌⊎◌, inl, inr, length-append}
-use Rattle.std.specs.Prelude.{IsTrue, nat_eq, nat_le, nat_lt, not, ◌&&◌, if◌then◌else◌}
+use Rattle.std.proofs.Common.{◌≡◌, ℕ, zero, suc, ◌+◌, ◌*◌, ◌^◌, ◌<◌, ◌≤◌, List, [], ◌∷◌, ◌++◌}
+use Rattle.std.proofs.Common.{length, take, drop, Some, refl, sym, ap, ◌∙◌, subst, arith, inl, inr, length-append}
+use Rattle.std.specs.Prelude.{IsTrue}
 use Rattle.std.proofs.lemmas.Bool.{cases_eq, cases_lt}
 use Rattle.std.proofs.lemmas.Option.{same_Some}
-use Rattle.std.proofs.lemmas.List.{append-nil, drop_all, drop-drop, length-drop, take_all, take-append-drop}
+use Rattle.std.proofs.lemmas.List.{append-nil, length-drop, take-append-drop}
 use Rattle.std.proofs.lemmas.List.Elements.{All-drop, All-tail, All-head}
 use Rattle.ncc_tx.specs.declared.entry.ChangeSet.{ChangeSet}
-use Rattle.ncc_tx.specs.declared.entry.Entry.TheVariants.{Noop}
 use Rattle.ncc_tx.specs.declared.entry.Item.{Item}
 use Rattle.ncc_tx.specs.declared.entry.Saved.{Saved}
-use Rattle.ncc_tx.specs.Items.{counted, entry_allowed, item_bytes, items_bytes}
-use Rattle.ncc_tx.specs.Kept.{AllAllowed, IsChange, Leads, MayFollow, MayKeep, MayStand, NeverFalls, Parted, SameTerms, Shared}
-use Rattle.ncc_tx.specs.Kept.{TermsParted, payload, term_at, terms}
+use Rattle.ncc_tx.specs.Items.{entry_allowed, item_bytes, items_bytes}
+use Rattle.ncc_tx.specs.Kept.{AllAllowed, IsChange, Leads, MayFollow, MayKeep, NeverFalls, Parted, SameTerms, Shared}
+use Rattle.ncc_tx.specs.Kept.{payload, term_at, terms}
 use Rattle.ncc_tx.specs.Spelled.{spelled}
 use Rattle.ncc_tx.proofs.ItemBytes.{allowed_short, length_counted, length_item, length_payload}
 use Rattle.ncc_tx.proofs.Changes as changes
-use Rattle.ncc_raft.specs.Member.{Seat, Member, Outcome, kept}
 use Rattle.ncc_raft.specs.Logs.{accepted}
-use Rattle.ncc_raft.specs.Core.{IsSeat, IsSound}
 use Rattle.ncc_raft.proofs.Changes.{grown, kept_as}
 use Rattle.ncc_raft.proofs.Falls.{falls_behind}
 use Rattle.ncc_raft.proofs.Merged.{accepted_parts, accepted_whole, parted_on}

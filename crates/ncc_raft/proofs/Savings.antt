@@ -1,7 +1,7 @@
 -- The change of each step may follow what was kept.
-use Rattle.std.proofs.Common.{◌≡◌, ◌≢◌, ℕ, ◌+◌, ◌-◌, ◌≤◌, Bool, true, false, min, List, [], ◌∷◌, ◌++◌, length, Option, Some, None, refl}
+use Rattle.std.proofs.Common.{◌≡◌, ℕ, ◌+◌, ◌-◌, ◌≤◌, Bool, true, false, min, List, [], ◌∷◌, ◌++◌, length, Option, Some, None, refl}
 use Rattle.std.proofs.Common.{sym, ap, ◌∙◌, subst, arith, ◌⊎◌, inl, inr, length-append}
-use Rattle.std.specs.Prelude.{IsTrue, nat_eq, nat_le, nat_lt, ◌&&◌, if◌then◌else◌}
+use Rattle.std.specs.Prelude.{nat_eq, nat_le, nat_lt, ◌&&◌, if◌then◌else◌}
 use Rattle.std.proofs.lemmas.Bool.{and_parts, leb-true}
 use Rattle.std.proofs.lemmas.List.{append-nil}
 use Rattle.ncc_tx.specs.declared.entry.ChangeSet.{ChangeSet}
@@ -9,7 +9,7 @@ use Rattle.ncc_tx.specs.declared.entry.Entry.{Entry}
 use Rattle.ncc_tx.specs.declared.entry.Entry.TheVariants.{Noop}
 use Rattle.ncc_tx.specs.declared.entry.Item.{Item}
 use Rattle.ncc_tx.specs.declared.entry.Saved.{Saved}
-use Rattle.ncc_tx.specs.Kept.{IsChange, MayFollow, MayKeep, term_at}
+use Rattle.ncc_tx.specs.Kept.{IsChange, MayFollow, term_at}
 use Rattle.ncc_raft.specs.declared.message.Body.{Body}
 use Rattle.ncc_raft.specs.declared.message.Body.TheVariants.{VoteAsk, VoteReply, Append, AppendReply, Pull, Batch}
 use Rattle.ncc_raft.specs.declared.message.Envelope.{Envelope}
@@ -24,7 +24,7 @@ use Rattle.ncc_raft.specs.Core.{IsSeat, IsSound}
 use Rattle.ncc_raft.specs.Laws.{Brings, Ends, MayBeSaved, MayCome, NeverBack, items_in}
 use Rattle.ncc_raft.specs.Step.{answered, append_reply, heard, lifted, may_add, offered, on_append, on_append_reply, on_beat, on_body}
 use Rattle.ncc_raft.specs.Step.{on_propose}
-use Rattle.ncc_raft.specs.Step.{on_timeout, on_vote_ask, on_vote_reply, settled, step, tallied, term_in, took_or_not, unless, vote_reply}
+use Rattle.ncc_raft.specs.Step.{on_timeout, on_vote_ask, on_vote_reply, settled, step, term_in, took_or_not, unless, vote_reply}
 use Rattle.ncc_raft.proofs.Never.{never}
 use Rattle.ncc_raft.proofs.Saving as saving
 use Rattle.ncc_raft.proofs.Stays.{stays}

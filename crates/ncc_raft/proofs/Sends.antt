@@ -1,13 +1,13 @@
 -- What a core sends can be carried, and goes by ascending destination, at each step.
-use Rattle.std.proofs.Common.{◌≡◌, ℕ, Bool, true, false, refl}
-use Rattle.std.specs.Prelude.{IsTrue, nat_eq, map, if◌then◌else◌}
+use Rattle.std.proofs.Common.{◌≡◌, Bool, true, false, refl}
+use Rattle.std.specs.Prelude.{nat_eq, map, if◌then◌else◌}
 use Rattle.std.specs.List.{All}
 use Rattle.std.proofs.lemmas.Bool.{and_parts}
 use Rattle.ncc_raft.specs.declared.message.Envelope.{Envelope}
 use Rattle.ncc_raft.specs.Member.{Seat, Member, Outcome, Timeout, Beat, Receive, Propose, still}
 use Rattle.ncc_raft.specs.Carried.{Carried}
 use Rattle.ncc_raft.specs.Core.{IsSeat, IsSound}
-use Rattle.ncc_raft.specs.Laws.{Ascends, MayCome, SendsCarried}
+use Rattle.ncc_raft.specs.Laws.{Ascends, SendsCarried}
 use Rattle.ncc_raft.specs.Step.{heard, hears_from, lifted, on_beat, on_body, on_propose, on_timeout, settled, step}
 use Rattle.ncc_raft.proofs.Carrying as carrying
 use Rattle.ncc_raft.proofs.Sound as sound

@@ -1,12 +1,11 @@
 -- A core stays sound, rule by rule.
-use Rattle.std.proofs.Common.{◌≡◌, ◌≢◌, ℕ, zero, suc, ◌+◌, ◌-◌, ◌*◌, ◌^◌, ◌<◌, ◌≤◌, Bool, true, false, min, max, List, [], ◌∷◌, ◌++◌}
-use Rattle.std.proofs.Common.{length, take, drop, Option, Some, None, refl, sym, ap, ◌∙◌, subst, arith, ◌⊎◌, inl, inr, get_or}
-use Rattle.std.proofs.Common.{length-append}
-use Rattle.std.specs.Prelude.{IsTrue, nat_eq, nat_le, nat_lt, not, ◌&&◌, ◌||◌, replicate, slice_index_or, slice_set, if◌then◌else◌}
-use Rattle.std.proofs.lemmas.Bool.{and_parts, cases_Bool, cases_eq, false≢true, leb-true, ltb-true, ltb-false, eqb-true, not-true}
+use Rattle.std.proofs.Common.{◌≡◌, ◌≢◌, ℕ, zero, suc, ◌+◌, ◌-◌, ◌<◌, ◌≤◌, Bool, true, false, min, max, List, [], ◌∷◌, ◌++◌}
+use Rattle.std.proofs.Common.{length, Option, Some, None, refl, sym, ap, ◌∙◌, subst, arith, inl, inr, get_or}
+use Rattle.std.specs.Prelude.{IsTrue, nat_eq, nat_le, nat_lt, not, ◌&&◌, replicate, slice_set, if◌then◌else◌}
+use Rattle.std.proofs.lemmas.Bool.{and_parts, cases_eq, false≢true, leb-true, ltb-true, ltb-false, eqb-true}
 use Rattle.std.proofs.lemmas.List.{append-nil, get_or-replicate, get_or-set_same, get_or-set_other, length-replicate, length-set}
-use Rattle.std.proofs.lemmas.List.{length_push, take_at}
-use Rattle.std.proofs.lemmas.List.Elements.{All-nil, All-push}
+use Rattle.std.proofs.lemmas.List.{length_push}
+use Rattle.std.proofs.lemmas.List.Elements.{All-push}
 use Rattle.ncc_tx.specs.declared.entry.Entry.{Entry}
 use Rattle.ncc_tx.specs.declared.entry.Entry.TheVariants.{Noop}
 use Rattle.ncc_tx.specs.declared.entry.Item.{Item}
@@ -16,7 +15,7 @@ use Rattle.ncc_tx.proofs.Entries.{noop_is}
 use Rattle.ncc_raft.specs.declared.message.Body.{Body}
 use Rattle.ncc_raft.specs.declared.message.Body.TheVariants.{VoteAsk, VoteReply, Append, AppendReply, Pull, Batch}
 use Rattle.ncc_raft.specs.declared.message.RaftRole.{RaftRole}
-use Rattle.ncc_raft.specs.declared.message.RaftRole.TheVariants.{Leader, Candidate, Follower}
+use Rattle.ncc_raft.specs.declared.message.RaftRole.TheVariants.{Candidate, Follower}
 use Rattle.ncc_raft.specs.declared.message.Note.TheVariants.{Beyond, TermsSpent}
 use Rattle.ncc_raft.specs.Member.{Seat, Member, Outcome, is_candidate, is_core, is_leader, kept, match_of, next_of, notes, sends, still}
 use Rattle.ncc_raft.specs.Member.{with_slot}
@@ -24,7 +23,7 @@ use Rattle.ncc_raft.specs.Logs.{accepted, first_conflict}
 use Rattle.ncc_raft.specs.Elections.{asks, counted, is_elected, is_spent, may_vote, noop_of, raised, timed_out, voted, won}
 use Rattle.ncc_raft.specs.Appending.{added, advanced, appends, back_to, follows, greatest, has_prev, has_up_to, may_commit, noted, took}
 use Rattle.ncc_raft.specs.Appending.{contradicted}
-use Rattle.ncc_raft.specs.Carried.{FitBehind, IsWithin}
+use Rattle.ncc_raft.specs.Carried.{IsWithin}
 use Rattle.ncc_raft.specs.Core.{IsSeat, IsSound, Leads}
 use Rattle.ncc_raft.specs.Step.{answered, append_reply, hears_from, lifted, may_add, offered, on_append, on_append_reply, on_beat}
 use Rattle.ncc_raft.specs.Step.{on_body, on_propose}

@@ -1,13 +1,12 @@
 -- The laws of each step.
-use Rattle.std.proofs.Common.{◌≡◌, ℕ, Bool, true, false, refl, sym, ap, ◌∙◌, subst, ◌≤◌}
-use Rattle.std.specs.Prelude.{IsTrue, nat_eq, ◌&&◌, if◌then◌else◌}
+use Rattle.std.proofs.Common.{◌≡◌, Bool, true, false, refl}
+use Rattle.std.specs.Prelude.{nat_eq, if◌then◌else◌}
 use Rattle.std.proofs.lemmas.Bool.{and_parts}
-use Rattle.ncc_raft.specs.declared.message.Body.{Body}
 use Rattle.ncc_raft.specs.declared.message.Envelope.{Envelope}
-use Rattle.ncc_raft.specs.Member.{Seat, Member, Event, Outcome, Timeout, Beat, Receive, Propose, still}
+use Rattle.ncc_raft.specs.Member.{Seat, Member, Timeout, Beat, Receive, Propose, still}
 use Rattle.ncc_raft.specs.Carried.{Carried}
 use Rattle.ncc_raft.specs.Core.{IsSeat, IsSound}
-use Rattle.ncc_raft.specs.Laws.{MayCome, StaysSound}
+use Rattle.ncc_raft.specs.Laws.{StaysSound}
 use Rattle.ncc_raft.specs.Step.{heard, hears_from, lifted, on_beat, on_body, on_propose, on_timeout, settled, step}
 use Rattle.ncc_raft.proofs.Sound as sound
 

@@ -1,5 +1,5 @@
 -- What contracts see of a core, and what it keeps at each moment.
-use Rattle.std.specs.Prelude.{◌≡◌, ℕ, suc, ◌+◌, ◌≤◌, ◌<◌, IsTrue, ◌^◌, length}
+use Rattle.std.specs.Prelude.{◌≡◌, ℕ, ◌+◌, ◌≤◌, ◌<◌, IsTrue, length}
 use Rattle.ncc_tx.specs.declared.entry.Saved.{Saved}
 use Rattle.ncc_tx.specs.Kept.{MayKeep, max_items, max_vote}
 use Rattle.ncc_raft.specs.Member.{Seat, Member, is_core, is_leader, kept, next_of, match_of, started}

@@ -1,17 +1,14 @@
 -- What holds of every step of a core, whatever the others do.
-use Rattle.std.specs.Prelude.{◌≡◌, ◌≢◌, ℕ, ◌≤◌, ◌<◌, ◌⊎◌, IsTrue, List, [], ◌∷◌, ◌++◌, length, take, map}
+use Rattle.std.specs.Prelude.{◌≡◌, ◌≢◌, ℕ, ◌≤◌, ◌<◌, ◌⊎◌, IsTrue, List, [], ◌∷◌, ◌++◌, take, map}
 use Rattle.std.specs.List.{All}
-use Rattle.std.specs.List.Sorted.{IsStrictlySortedBy}
 use Rattle.ncc_tx.specs.declared.entry.ChangeSet.{ChangeSet}
-use Rattle.ncc_tx.specs.declared.entry.Entry.{Entry}
 use Rattle.ncc_tx.specs.declared.entry.Item.{Item}
 use Rattle.ncc_tx.specs.Items.{entry_allowed}
 use Rattle.ncc_tx.specs.Kept.{IsChange, MayFollow}
 use Rattle.ncc_raft.specs.declared.message.Body.{Body}
 use Rattle.ncc_raft.specs.declared.message.Body.TheVariants.{Append}
-use Rattle.ncc_raft.specs.declared.message.Envelope.{Envelope}
 use Rattle.ncc_raft.specs.declared.message.Note.TheVariants.{Nothing, TermsSpent}
-use Rattle.ncc_raft.specs.Member.{Seat, Member, Event, Outcome, Timeout, Beat, Receive, Propose, is_leader, kept}
+use Rattle.ncc_raft.specs.Member.{Seat, Member, Event, Outcome, Receive, Propose, is_leader, kept}
 use Rattle.ncc_raft.specs.Elections.{noop_of}
 use Rattle.ncc_raft.specs.Carried.{Carried}
 use Rattle.ncc_raft.specs.Core.{IsSeat, IsSound}

@@ -7,3 +7,5 @@ pub mod Carried
 pub mod Pulled
 pub mod Core
 pub mod Laws
+pub mod Fronts
+pub mod State

@@ -1,9 +1,8 @@
 -- A log read place by place, by the terms of its items alone. Place 0 stands before all items and has term 0.
-use Rattle.std.specs.Prelude.{ℕ, zero, suc, ◌+◌, ◌-◌, Bool, ◌&&◌, ◌||◌, not, nat_eq, nat_lt, nat_le, if◌then◌else◌, List, [], ◌∷◌, ◌++◌, length, take, drop}
+use Rattle.std.specs.Prelude.{ℕ, zero, suc, ◌-◌, Bool, ◌&&◌, ◌||◌, not, nat_eq, nat_lt, nat_le, if◌then◌else◌, List, [], ◌∷◌, ◌++◌, length, take, drop}
 use Rattle.std.specs.Prelude.{Option, Some, None}
 use Rattle.ncc_tx.specs.declared.entry.Item.{Item}
-use Rattle.ncc_tx.specs.Kept.{term_at, terms}
-use Rattle.ncc_tx.specs.Items.{max_entry}
+use Rattle.ncc_tx.specs.Kept.{term_at}
 use Rattle.ncc_tx.specs.Spelled.{spelled}
 
 -- the term of the last item, 0 where there is none

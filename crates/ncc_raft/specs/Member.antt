@@ -1,5 +1,5 @@
 -- A core: what it is, what may happen to it, and what comes of it. Extended Raft paper, Figure 2, "State".
-use Rattle.std.specs.Prelude.{ℕ, ◌+◌, ◌-◌, ◌*◌, min, Bool, true, false, ◌&&◌, nat_lt, nat_le, List, [], ◌∷◌, replicate}
+use Rattle.std.specs.Prelude.{ℕ, ◌-◌, ◌*◌, min, Bool, true, false, ◌&&◌, nat_lt, nat_le, List, [], replicate}
 use Rattle.std.specs.Prelude.{slice_index_or, slice_set}
 use Rattle.std.specs.List.{count_by, range_with_len}
 use Rattle.ncc_tx.specs.declared.entry.Entry.{Entry}

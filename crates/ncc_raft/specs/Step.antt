@@ -4,7 +4,7 @@ use Rattle.ncc_tx.specs.declared.entry.Entry.{Entry}
 use Rattle.ncc_tx.specs.declared.entry.Item.{Item}
 use Rattle.ncc_raft.specs.declared.message.Envelope.{Envelope}
 use Rattle.ncc_raft.specs.declared.message.Body.{Body}
-use Rattle.ncc_raft.specs.declared.message.Body.TheVariants.{VoteAsk, VoteReply, Append, AppendReply, Pull, Batch}
+use Rattle.ncc_raft.specs.declared.message.Body.TheVariants.{VoteAsk, VoteReply, Append, AppendReply, Pull}
 use Rattle.ncc_raft.specs.declared.message.Note.TheVariants.{Contradicted, Beyond, TermsSpent}
 use Rattle.ncc_raft.specs.Member.{Seat, Member, Event, Outcome, Timeout, Beat, Receive, Propose, still, sends, notes, letter, is_core}
 use Rattle.ncc_raft.specs.Member.{is_leader, is_candidate}

@@ -6,11 +6,9 @@ ghost use Rattle.ncc_tx.specs.Kept.{AllAllowed, NeverFalls};
 ghost use Rattle.ncc_raft.specs.Carried.{Carried, FitBehind, IsNumber, IsWithin};
 
 use crate::message::{Body, Envelope};
-use ncc_tx::{Item, entry_allowed, items_len};
+use ncc_tx::{Item, TERM_LIMIT, entry_allowed, items_len};
 
 const MAX_MEMBERS: u8 = 23;
-
-const TERM_LIMIT: u64 = 0x4000_0000_0000_0000;
 
 const PLACE_LIMIT: u64 = 0x4000_0000_0000_0000;
 
