@@ -2,5 +2,10 @@ pub mod Records
 pub mod Header
 pub mod Saves
 pub mod Calls
+pub mod Gated
+pub mod Fronts
 pub mod Shown
+pub mod Reading
+pub mod Opening
 pub mod Row
+pub mod Stops

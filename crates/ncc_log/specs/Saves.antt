@@ -2,7 +2,7 @@
 use Rattle.std.specs.Prelude.{◌≡◌, ◌⊎◌, ℕ, List, [], ◌++◌, drop, Some, None}
 use Rattle.ncc_tx.specs.declared.entry.Saved.{Saved}
 use Rattle.ncc_log.specs.declared.error.JournalError.{JournalError}
-use Rattle.ncc_log.specs.declared.error.JournalError.TheVariants.{Damaged}
+use Rattle.ncc_log.specs.declared.error.JournalError.TheVariants.{Damaged, DiskFault, Foreign, Full, Memory}
 use Rattle.ncc_log.specs.Header.{header, header_fault}
 use Rattle.ncc_log.specs.Records.{Breaks, Stands}
 
@@ -25,3 +25,24 @@ pub record BreaksAt (cluster member : ℕ) (b : List ℕ) (at : ℕ) : Type 0 wh
 abbrev pub Refuses : ℕ → ℕ → List ℕ → JournalError → Type 0
 Refuses cluster member b e =
     (header_fault cluster member b ≡ Some e) ⊎ ((at : ℕ) × (e ≡ Damaged at) × BreaksAt cluster member b at)
+
+-- a part, or the part after a change
+abbrev pub BeforeOrAfter : ℕ → ℕ → Saved → Saved → List ℕ → Type 0
+BeforeOrAfter cluster member before after b = Saves cluster member b before ⊎ Saves cluster member b after
+
+-- an answer for want of memory or for a fault of the disk may come at any bytes, and any other is theirs
+abbrev pub IsRefusal : ℕ → ℕ → List ℕ → JournalError → Type 0
+IsRefusal cluster member b DiskFault = Unit {0}
+IsRefusal cluster member b Memory = Unit {0}
+IsRefusal cluster member b Full = ⊥
+IsRefusal cluster member b (Damaged at) = Refuses cluster member b (Damaged at)
+IsRefusal cluster member b (Foreign c m) = Refuses cluster member b (Foreign c m)
+
+-- a fault of the disk, or want of memory
+abbrev pub IsFree : JournalError → Type 0
+IsFree DiskFault = Unit {0}
+IsFree Memory = Unit {0}
+IsFree e = ⊥
+
+abbrev pub IsOrFree : JournalError → JournalError → Type 0
+IsOrFree wanted e = (e ≡ wanted) ⊎ IsFree e

@@ -16,9 +16,9 @@ pub record Shown (D : Type 0) : Type 0 where
   pub member : ℕ
   -- the place of the closed gate, behind which the next record comes
   pub gate : ℕ
-  -- there is room for a record with a payload of so many bytes
+  -- the next save of a payload of at most so many bytes finds memory
   pub room : ℕ
-  -- it failed, and the disk is to be recovered; no call that is there yet makes it so
+  -- a save failed, and the disk is to be recovered
   pub failed : Bool
 
 abbrev pub shown_code : {D : Type 0} → Coded D → Coded (Shown D)

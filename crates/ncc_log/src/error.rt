@@ -1,4 +1,4 @@
-//! Why a journal could not be made, and why bytes are none.
+//! Why a journal could not be opened, or a change not saved.
 
 ghost use Rattle.std.specs.Prelude.{◌≡◌};
 ghost use Rattle.ncc_base.specs.declared.disk.DiskError.TheVariants as disk;
@@ -8,11 +8,10 @@ use ncc_base::{DiskError, Failed};
 use std::alloc::AllocError;
 use thiserror::Error;
 
-/// Why a journal could not be made, and why bytes are none. No call that is there yet answers `Damaged`, `Foreign` or `Full`: the
-/// first two are in the laws of the format, the third is for saving.
+/// Why a journal could not be opened, or a change not saved.
 #[derive(Clone, Copy, Debug, PartialEq, Eq, Error)]
 pub enum JournalError {
-    /// The disk failed.
+    /// The disk failed, now or in an earlier save: the journal is to be recovered.
     #[error("the disk failed")]
     DiskFault,
     /// The bytes are no journal. `at` is the place of the first wrong byte of the header, or of the gate of the first record
@@ -25,17 +24,17 @@ pub enum JournalError {
     /// The log would have more than 2^24 items.
     #[error("the log is full")]
     Full,
-    /// Out of memory.
+    /// Out of memory, or the file would pass 2^62 bytes.
     #[error("out of memory")]
     Memory,
 }
 
-/// A disk on which no journal was made, and why.
+/// A disk that was not opened, and why.
 #[derive(Drop)]
 pub struct Unopened<D> {
     /// The disk.
     pub disk: D,
-    /// Why there is none.
+    /// Why it was not opened.
     pub error: JournalError,
 }
 

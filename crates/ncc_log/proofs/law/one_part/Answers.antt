@@ -1,4 +1,4 @@
-use Rattle.ncc_log.proofs.Refusals.{one_saves}
+use Rattle.ncc_log.proofs.Save.{one_saves}
 use Rattle.ncc_log.proofs.law.one_part.Goals as goal
 
 pub returns : goal.returns
