@@ -4,15 +4,19 @@
 //! - `decode`, `encode` and `fits`: the input is a value, which is decoded, encoded or asked whether it fits.
 //! - `parse`: the input is a statement, which is parsed.
 //! - `steps`: the input makes a store, and has the steps that are run over it (`steps.rt`).
+//! - `cores`: the input is a number: so many transactions are proposed between two deliveries, to three cores (`cores.rt`).
+//! - `take`, `answer` and `append`: the input is the length of a core's log: it takes 64 items, hears an answer, appends an item.
 //! - `messages` and `bytes`: the input is a stream of chunks, which is fed in pieces of 8,192 bytes or of one byte; each
 //!   message is read as a request as soon as it is whole.
 #![tactic(auto)]
 
+mod cores;
 mod steps;
 
 ghost use Rattle.std.specs.Prelude.{◌<◌, IsTrue};
 ghost use Rattle.ncc_pack.specs.Fits.{fits};
 
+use cores::{answer_often, append_often, propose_often, take_often};
 use ncc_bolt::read_request;
 use ncc_chunk::{Dechunk, Dechunker};
 use ncc_cypher::parse;
@@ -110,6 +114,20 @@ fn parse_often(alloc: Global, source: &str, times: u32) -> u64 {
     sum
 }
 
+/// Whether all passes over cores did what they should.
+fn core_passes(alloc: Global, number: u32, work: &str, times: u32) -> bool {
+    let (done, wanted) = match work {
+        "cores" => (
+            propose_often(alloc, number, times),
+            u64::from(number).saturating_mul(u64::from(times)),
+        ),
+        "take" => (take_often(alloc, number, times), u64::from(times)),
+        "answer" => (answer_often(alloc, number, times), u64::from(times)),
+        _ => (append_often(alloc, number, times), u64::from(times)),
+    };
+    done == Ok(wanted)
+}
+
 /// The bytes that all passes over a text went through.
 fn text_passes(alloc: Global, text: &str, work: &str, times: u32) -> u64 {
     if work == "parse" {
@@ -147,6 +165,15 @@ fn run(alloc: Global, words: &[String], bytes: &[u8]) -> bool {
     let Ok(times) = times.parse::<u32>() else {
         return false;
     };
+    if matches!(work.as_str(), "cores" | "take" | "answer" | "append") {
+        return match str::from_utf8(bytes) {
+            Ok(text) => match text.trim_ascii().parse::<u32>() {
+                Ok(number) => core_passes(alloc, number, work.as_str(), times),
+                Err(_) => false,
+            },
+            Err(_) => false,
+        };
+    }
     let wanted = u64::from(times).saturating_mul(bytes.len() as u64);
     if work.as_str() == "parse" || work.as_str() == "steps" {
         return match str::from_utf8(bytes) {
