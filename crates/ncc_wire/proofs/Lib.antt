@@ -1,0 +1,11 @@
+pub mod Fields
+pub mod Heads
+pub mod Lists
+pub mod Parts
+pub mod Wholes
+pub mod Ones
+pub mod Bodies
+pub mod Answered
+pub mod Alone
+pub mod Sizes
+pub mod Causes
