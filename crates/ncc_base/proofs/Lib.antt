@@ -6,3 +6,4 @@ pub mod Calls
 mod Kept
 pub mod Drawn
 pub mod Runs
+pub mod Moments

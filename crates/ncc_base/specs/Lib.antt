@@ -5,3 +5,6 @@ pub mod Disk
 pub mod MemDisk
 pub mod Noted
 pub mod MemLaws
+pub mod Clock
+pub mod MemClock
+pub mod ClockLaws

@@ -1,12 +1,14 @@
 //! The objects in memory, and those over std's readers and writers, which no contract can see into.
 
 use crate::{
-    Disk, Failed, FileDisk, MemDisk, MemSink, MemSource, Sink, SinkError, Source, StdSink,
-    StdSource,
+    Clock, Disk, Failed, FileDisk, MemClock, MemDisk, MemSink, MemSource, Sink, SinkError, Source,
+    StdClock, StdSink, StdSource,
 };
+use std::cell::Cell;
 use std::fs::File;
 use std::io::{Read, Write};
 use std::test::Fail;
+use std::time::{self, Duration};
 use std::{env, fs, io};
 
 #[test]
@@ -167,5 +169,55 @@ fn keeps_bytes_in_a_file(rt: HostRuntime) -> Result<(), Fail> {
     assert_eq!(rt; shut.faults(), 1);
     assert_eq!(rt; shut.read(rt.alloc(), 0, 1)?.as_slice(), [7u8].as_slice());
     fs::remove_file(&rt, &path)?;
+    Ok(())
+}
+
+// A clock that gives the listed seconds, and fails where none is listed.
+#[derive(Drop)]
+struct Seconds<'a> {
+    readings: &'a [Option<u64>],
+    reads: Cell<usize>,
+}
+
+impl<'a> time::Clock for Seconds<'a> {
+    fn monotonic(&self) -> io::Result<Duration> {
+        let read = self.reads.get();
+        self.reads.set(read.saturating_add(1));
+        match self.readings.get(read) {
+            Some(Some(seconds)) => Ok(Duration::from_secs(*seconds)),
+            _ => Err(io::Error::from(io::ErrorKind::Other)),
+        }
+    }
+
+    fn since_1970(&self) -> io::Result<Duration> {
+        self.monotonic()
+    }
+}
+
+#[test]
+fn tells_the_time(rt: HostRuntime) {
+    let readings = [Some(5), Some(7), None, Some(6), Some(8)];
+    let mut clock = StdClock::new(Seconds {
+        readings: &readings,
+        reads: Cell::new(0),
+    });
+    // A reading that fails and one that is smaller change nothing.
+    for want in [2000, 2000, 2000, 3000] {
+        assert_eq!(rt; clock.now(), want);
+    }
+    let mut system = StdClock::new(&rt);
+    let first = system.now();
+    assert!(rt; first <= system.now());
+}
+
+#[test]
+fn tells_listed_moments(rt: HostRuntime) -> Result<(), Fail> {
+    let moments = [3, 3, 8];
+    let may = MemClock::may_tell(&moments);
+    assert!(rt; may);
+    let mut clock = MemClock::new(rt.alloc(), &moments)?;
+    for want in [3, 3, 8, 8, 8] {
+        assert_eq!(rt; clock.now(), want);
+    }
     Ok(())
 }
