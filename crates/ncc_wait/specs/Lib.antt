@@ -1,1 +1,4 @@
 pub mod Waiting
+pub mod Room
+pub mod Tree
+pub mod TreeFalls
