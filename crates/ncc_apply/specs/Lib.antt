@@ -1,0 +1,4 @@
+pub mod View
+pub mod Runs
+pub mod Shelf
+pub mod Meant
