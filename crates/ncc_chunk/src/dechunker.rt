@@ -105,6 +105,8 @@ impl Dechunker {
         ensures err { OnErr result (self.new ≡ self.old) }
         ensures again { ExactlyAt (λ stream handed. EndsAfter stream handed) self.old (IsErrOf result Dechunk.Again) }
         ensures too_long { ExactlyAt (λ stream handed. IsTooLongAfter stream handed) self.old (IsErrOf result Dechunk.TooLong) }
+        // It is the first of those that are ready, and the others stay.
+        ensures first { IfOk result (λ m. self.old.ready ≡ m ∷ self.new.ready) }
         ensures whole { (message : List ℕ) → ExactlyAt (λ stream handed. IsNextAfter stream handed message) self.old (result ≡ Ok message) }
     {
         match self.take_first() {

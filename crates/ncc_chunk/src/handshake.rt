@@ -1,6 +1,6 @@
 //! The handshake, as the Bolt Protocol handshake specification says.
 
-ghost use Rattle.std.specs.Prelude.{◌≡◌, ◌≢◌, ℕ, List, [], ◌∷◌, ◌++◌, ◌<◌, ◌≤◌, length, take};
+ghost use Rattle.std.specs.Prelude.{◌≡◌, ◌≢◌, ◌↔◌, ℕ, List, [], ◌∷◌, ◌++◌, ◌<◌, ◌≤◌, length, take, IsTrue};
 ghost use Rattle.std.specs.List.{list_any};
 ghost use Rattle.ncc_chunk.specs.Handshake.{covers, proposals, answer_to, answer_to_proposals, handshake_of};
 
@@ -74,6 +74,13 @@ impl Handshake {
             }
         }
         (piece.len(), self.answer())
+    }
+
+    /// Says whether nothing has come. It takes no memory.
+    pub fn is_empty(&self) -> bool
+        ensures empty { IsTrue result ↔ (self.now ≡ []) }
+    {
+        self.count == 0
     }
 
     fn answer(&self) -> Shake

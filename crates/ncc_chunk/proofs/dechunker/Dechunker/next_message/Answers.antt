@@ -16,6 +16,10 @@ none_ready c = first_none c.args.self.now.ready c.in-None.ensures.first
 missing_told : (c : After-missing) → c.missing.result ≡ missing_at c.args.self.now.place
 missing_told c = c.missing.ensures ∙ ap (λ (s : Inflow). missing_at s.place) c.in-None.ensures.others
 
+pub returns-in-Some-clause-first : goal.returns-in-Some-clause-first
+returns-in-Some-clause-first c =
+    first_ready c ∙ ap (λ (s : Inflow). c.in-Some.message ∷ s.ready) (sym c.in-Some.ensures.others)
+
 pub returns-in-Some-clause-again : goal.returns-in-Some-clause-again
 returns-in-Some-clause-again c stream handed k =
     (λ h. absurd (cc), λ e. absurd (not_ends c.args.self.now _ _ (first_ready c) stream handed k e))
