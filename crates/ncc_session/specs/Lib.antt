@@ -1,0 +1,17 @@
+pub mod Config
+pub mod Refusals
+pub mod Answers
+pub mod Question
+pub mod Kept
+pub mod Core
+pub mod Replies
+pub mod Checks
+pub mod Table
+pub mod Turns
+pub mod Took
+pub mod Session
+pub mod Talk
+pub mod Steps
+pub mod Laws
+pub mod Transactions
+pub mod Asking
