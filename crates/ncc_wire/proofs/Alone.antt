@@ -22,7 +22,8 @@ pub none_begins : (c d : ℕ) (e f : Envelope) (a b x y : List ℕ) → IsFrame 
 none_begins c d e f a b x y g h same =
     let p = framed c e a g in
     let q = framed d f b h in
-    let one : frame_bytes c e ++ x ≡ frame_bytes d f ++ y = ap (λ (l : List ℕ). l ++ x) (sym p.same) ∙ same ∙ ap (λ (l : List ℕ). l ++ y) q.same in
+    let one : frame_bytes c e ++ x ≡ frame_bytes d f ++ y = ap (λ (l : List ℕ). l ++ x) (sym p.same) ∙ same
+    ∙ ap (λ (l : List ℕ). l ++ y) q.same in
     let both : found (frame_bytes c e) ≡ found (frame_bytes d f) = sym (whole_frame c e p.sent.fine x) ∙ ap whole_at one
     ∙ whole_frame d f q.sent.fine y in
     let frames : frame_bytes c e ≡ frame_bytes d f = cc in

@@ -1,5 +1,6 @@
 -- What is read of a body, field by field and item by item, and of a whole frame.
-use Rattle.std.proofs.Common.{◌≡◌, ℕ, ◌+◌, ◌<◌, ◌≤◌, List, [], ◌∷◌, length, drop, Result, Ok, Err, refl, sym, ap, ◌∙◌, subst, arith, length-append}
+use Rattle.std.proofs.Common.{◌≡◌, ℕ, ◌+◌, ◌<◌, ◌≤◌, List, [], ◌∷◌, length, drop, Result, Ok, Err, refl, sym, ap, ◌∙◌, subst, arith}
+use Rattle.std.proofs.Common.{length-append}
 use Rattle.std.proofs.Common.{length-drop}
 use Rattle.ncc_tx.specs.declared.entry.Item.{Item}
 use Rattle.ncc_tx.specs.Items.{items_bytes}
@@ -9,7 +10,8 @@ use Rattle.ncc_wire.specs.declared.error.FrameError.{FrameError}
 use Rattle.ncc_wire.specs.declared.error.FrameError.TheVariants.{BadField, BadKind, Memory, OtherCluster, Rest, Short, TooLong}
 use Rattle.ncc_wire.specs.declared.kind.Kind.{Kind}
 use Rattle.ncc_wire.specs.Kinds.{fields, members}
-use Rattle.ncc_wire.specs.Judged.{BodyBreaks, BodyRead, HasBody, HasFields, HasItems, IsCaused, Judges, Reads, in_fields, in_items, items_of, numbers}
+use Rattle.ncc_wire.specs.Judged.{BodyBreaks, BodyRead, HasBody, HasFields, HasItems, IsCaused, Judges, Reads, in_fields, in_items}
+use Rattle.ncc_wire.specs.Judged.{items_of, numbers}
 use Rattle.ncc_wire.specs.Reading.{Breaks, Front, Refuses, at_end, at_field, at_item, behind_fields, fields_at, front_at, kind_at}
 use Rattle.ncc_wire.specs.Reading.{listing, whole_at}
 use Rattle.ncc_wire.proofs.Fields.{fields_inside}
@@ -35,11 +37,13 @@ pub no_items : (kind : Kind) (frame ns : List ℕ) (e : FrameError) → fields_a
     HasItems (listing kind ns) (behind_fields kind) (drop (behind_fields kind) frame) (Err e) → BodyRead kind frame (Err e)
 no_items kind frame ns e f h = go e h
   where
-    at : (e : FrameError) → (place : ℕ) × Breaks (listing kind ns) (drop (behind_fields kind) frame) place × (e ≡ BadField (behind_fields kind + place))
+    at : (e : FrameError) → (place : ℕ) × Breaks (listing kind ns) (drop (behind_fields kind) frame) place ×
+        (e ≡ BadField (behind_fields kind + place))
         → BodyBreaks kind frame e
     at e h = subst (BodyBreaks kind frame) (sym h.2) (in_items kind frame ns h.0 f h.1)
 
-    go : (e : FrameError) → HasItems (listing kind ns) (behind_fields kind) (drop (behind_fields kind) frame) (Err e) → BodyRead kind frame (Err e)
+    go : (e : FrameError) → HasItems (listing kind ns) (behind_fields kind) (drop (behind_fields kind) frame) (Err e) →
+        BodyRead kind frame (Err e)
     go Short h = at Short h
     go (TooLong n) h = at (TooLong n) h
     go (OtherCluster n) h = at (OtherCluster n) h
@@ -67,7 +71,8 @@ pub no_fields_of : (k kind : Kind) (frame : List ℕ) (r : Result (Body × ℕ) 
 no_fields_of k kind frame r y e is a b h = told_body kind frame r y e a b
     (subst (λ (x : Kind). BodyRead x frame (Err e)) (sym is) (no_fields k frame e h))
 
-pub plain_of : (k kind : Kind) (frame : List ℕ) (b : Body) → kind ≡ k → HasFields k frame (Ok b) → BodyRead kind frame (Ok (b, behind_fields k))
+pub plain_of : (k kind : Kind) (frame : List ℕ) (b : Body) → kind ≡ k → HasFields k frame (Ok b) →
+    BodyRead kind frame (Ok (b, behind_fields k))
 plain_of k kind frame b is h = subst (λ (x : Kind). BodyRead x frame (Ok (b, behind_fields k))) (sym is) (plain k frame b h)
 
 -- ---- a frame
@@ -128,7 +133,8 @@ module _ (c : ℕ) (bytes frame : List ℕ) (kind : Kind) (from to : ℕ) (h : H
   has_rest b end x lt =
       let f : Front = front_with frame kind from to (numbers b) in
       let r : Refuses c bytes (Rest (behind_fields kind + length (items_bytes (items_of b)))) =
-      at_end c bytes f (items_of b) (front_is c bytes frame (numbers b) kind from to h x.fields_are) x.stand x.number (omega (arith, lt, x.end_is)) in
+      at_end c bytes f (items_of b) (front_is c bytes frame (numbers b) kind from to h x.fields_are) x.stand x.number
+      (omega (arith, lt, x.end_is)) in
       subst (λ (n : ℕ). Refuses c bytes (Rest n)) (sym x.end_is) r
 
   pub has_all : (b : Body) (end : ℕ) → HasBody kind frame b end → length frame ≤ end →

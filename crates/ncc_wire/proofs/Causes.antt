@@ -1,12 +1,12 @@
 -- No refusal that bytes call for is want of memory.
-use Rattle.std.proofs.Common.{◌≡◌, ℕ, ◌+◌, ◌≤◌, Bool, true, false, List, [], ◌∷◌, length, take, drop, Option, Some, None, Result, Ok, Err, refl}
+use Rattle.std.proofs.Common.{◌≡◌, ℕ, ◌+◌, Bool, true, false, List, [], ◌∷◌, length, take, Option, Some, None, Result, Ok, Err, refl}
 use Rattle.std.specs.Prelude.{◌&&◌, not, nat_eq, nat_le, nat_lt, if◌then◌else◌, slice_index}
 use Rattle.ncc_raft.specs.Carried.{max_frame}
 use Rattle.ncc_wire.specs.declared.error.FrameError.{FrameError}
 use Rattle.ncc_wire.specs.declared.error.FrameError.TheVariants.{BadField, BadKind, Memory, OtherCluster, Rest, Short, TooLong}
 use Rattle.ncc_wire.specs.declared.kind.Kind.{Kind}
 use Rattle.ncc_wire.specs.Kinds.{Field, fields, kind_with, members, width}
-use Rattle.ncc_wire.specs.Reading.{◌>>=◌, Breaks, Front, Refuses, Stand, at_end, at_field, at_item, cluster_in, field_at, fields_at, front_at}
+use Rattle.ncc_wire.specs.Reading.{◌>>=◌, Front, Refuses, at_end, at_field, at_item, cluster_in, field_at, fields_at, front_at}
 use Rattle.ncc_wire.specs.Reading.{kind_at, kind_or_fault, number_at, size_at_front, whole_at}
 
 -- it never ends for want of memory
@@ -34,13 +34,15 @@ says_field : (f : Field) (at : ℕ) (frame : List ℕ) → Says (field_at f at f
 unfolding field_at
 says_field f at frame =
     let n = number_at f at frame in
-    says_if (nat_le (at + width f.wide) (length frame) && nat_le f.least n && nat_le n f.greatest) (Ok n) (Err (BadField at)) (says_ok n) (λ e. cc)
+    says_if (nat_le (at + width f.wide) (length frame) && nat_le f.least n && nat_le n f.greatest) (Ok n) (Err (BadField at)) (says_ok n)
+    (λ e. cc)
 
 says_fields : (fs : List Field) (at : ℕ) (frame : List ℕ) → Says (fields_at fs at frame)
 says_fields [] at frame = says_ok []
 says_fields (f ∷ fs) at frame =
     says_then (field_at f at frame) (λ n. fields_at fs (at + width f.wide) frame >>= λ ns. Ok (n ∷ ns)) (says_field f at frame)
-    (λ n. says_then (fields_at fs (at + width f.wide) frame) (λ ns. Ok (n ∷ ns)) (says_fields fs (at + width f.wide) frame) (λ ns. says_ok (n ∷ ns)))
+    (λ n. says_then (fields_at fs (at + width f.wide) frame) (λ ns. Ok (n ∷ ns)) (says_fields fs (at + width f.wide) frame)
+    (λ ns. says_ok (n ∷ ns)))
 
 says_whole : (bytes : List ℕ) → Says (whole_at bytes)
 unfolding whole_at

@@ -54,7 +54,8 @@ written_back in_eight b len all = be_bytes_8 b _ len all refl
 
 -- ---- one field
 
-both : (a b c : Bool) (x n : ℕ) (e : FrameError) → (if a && b && c then Ok x else Err e) ≡ Ok n → (a ≡ true) × (b ≡ true) × (c ≡ true) × (x ≡ n)
+both : (a b c : Bool) (x n : ℕ) (e : FrameError) → (if a && b && c then Ok x else Err e) ≡ Ok n →
+    (a ≡ true) × (b ≡ true) × (c ≡ true) × (x ≡ n)
 both true true true x n e h = (refl, refl, refl, cc)
 both true true false x n e h = absurd (cc)
 both true false c x n e h = absurd (cc)
@@ -81,7 +82,8 @@ field_takes f at frame n all e =
       least = omega (arith, leb-true f.least m h.1, h.3);
       greatest = omega (arith, leb-true m f.greatest h.2, h.3);
       same = sym (take-append-drop w (drop at frame)) ∙ ap (λ (l : List ℕ). l ++ drop w (drop at frame)) (sym front)
-          ∙ ap (λ (k : ℕ). written f.wide k ++ drop w (drop at frame)) h.3 ∙ ap (λ (l : List ℕ). written f.wide n ++ l) (drop-drop w at frame);
+          ∙ ap (λ (k : ℕ). written f.wide k ++ drop w (drop at frame)) h.3
+          ∙ ap (λ (l : List ℕ). written f.wide n ++ l) (drop-drop w at frame);
     }
 
 pub field_again : (f : Field) (at : ℕ) (frame : List ℕ) (n : ℕ) (rest : List ℕ) → f.greatest < limit f.wide → f.least ≤ n → n ≤ f.greatest →

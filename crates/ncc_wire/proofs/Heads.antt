@@ -1,6 +1,7 @@
 -- What stands before sender and receiver: a whole frame by its size, its cluster and its kind.
 use Rattle.std.proofs.Common.{◌≡◌, ℕ, ◌+◌, ◌-◌, ◌^◌, ◌<◌, ◌≤◌, Bool, true, false, List, ◌∷◌, ◌++◌, length, get_or, take, drop}
-use Rattle.std.proofs.Common.{Option, Some, None, Result, Ok, Err, refl, sym, ap, subst, ◌∙◌, append_assoc, arith, length-append, length-drop}
+use Rattle.std.proofs.Common.{Option, Some, None, Result, Ok, Err, refl, sym, ap, subst, ◌∙◌, append_assoc, arith, length-append}
+use Rattle.std.proofs.Common.{length-drop}
 use Rattle.std.proofs.Common.{take-append-drop}
 use Rattle.std.specs.Prelude.{not, nat_eq, nat_lt, if◌then◌else◌, slice_index}
 use Rattle.std.specs.Int.{w32, w64, to_be_bytes}
@@ -81,7 +82,8 @@ whole_again c rest few =
     let a : nat_lt (length bytes) 4 ≡ false = le-ltb (length bytes) 4 (omega arith) in
     let b : nat_lt max_frame (size_at_front bytes) ≡ false = le-ltb max_frame (size_at_front bytes) (omega arith) in
     let d : nat_lt (length bytes) (4 + size_at_front bytes) ≡ false = le-ltb (length bytes) (4 + size_at_front bytes) (omega arith) in
-    let last : take (4 + size_at_front bytes) bytes ≡ h ++ c = ap (λ (m : ℕ). take (4 + m) bytes) n ∙ take_at (h ++ c) rest (4 + length c) long in
+    let last : take (4 + size_at_front bytes) bytes ≡ h ++ c = ap (λ (m : ℕ). take (4 + m) bytes) n
+    ∙ take_at (h ++ c) rest (4 + length c) long in
     rw (a, b, d) (ap found last)
 
 -- ---- cluster and kind
@@ -132,7 +134,8 @@ owner_takes cluster frame kind all e =
     let c = passed (nat_lt (length frame) 13) (BadField 12) last kind b.1 in
     let long : 13 ≤ length frame = ltb-false (length frame) 13 c.0 in
     let owner : n ≡ cluster = eqb-true n cluster (not_false (nat_eq n cluster) b.0) in
-    let said : slice_index frame 12 ≡ code kind = kind_takes (slice_index frame 12) kind (known (kind_with (slice_index frame 12)) kind c.1) in
+    let said : slice_index frame 12 ≡ code kind = kind_takes (slice_index frame 12) kind
+    (known (kind_with (slice_index frame 12)) kind c.1) in
     let eight : length (take 8 (drop 4 frame)) ≡ 8 = length-take-le 8 (drop 4 frame) (omega (arith, length-drop 4 frame)) in
     let head : to_be_bytes w64 n ≡ take 8 (drop 4 frame) = written_back in_eight (take 8 (drop 4 frame)) eight
     (take_bytes (drop 4 frame) 8 (rest_bytes frame 4 all)) in

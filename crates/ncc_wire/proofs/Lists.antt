@@ -158,7 +158,8 @@ one_stand o bytes is js few n a b =
     sym (g.joined ∙ ap (λ (l : List Item). is ++ l) none ∙ append-nil is)
 
 -- where an item stands no field is wrong
-right_there : (rising : Bool) (least greatest : ℕ) (more : List Item) (r s : List ℕ) (field : ItemField) → greatest < 2 ^ 64 → 0 < length more →
+right_there : (rising : Bool) (least greatest : ℕ) (more : List Item) (r s : List ℕ) (field : ItemField) → greatest < 2 ^ 64 →
+    0 < length more →
     AreWithin rising least greatest more → AllAllowed more → r ≡ items_bytes more ++ s → IsWrong least greatest r field → ⊥
 right_there rising least greatest [] r s field few some w a e wrong = absurd (omega arith)
 right_there rising least greatest (m ∷ ms) r s field few some w a e wrong =
@@ -189,7 +190,8 @@ same_break o bytes p q few x y n =
     let wrong : IsWrong (least_behind o.rising o.least x.front) o.greatest x.stand.rest y.field =
     subst (λ (l : List ℕ). IsWrong (least_behind o.rising o.least x.front) o.greatest l y.field) rests
     (subst (λ (l : List Item). IsWrong (least_behind o.rising o.least l) o.greatest y.stand.rest y.field) fronts y.wrong) in
-    let fields : x.field ≡ y.field = one_wrong (least_behind o.rising o.least x.front) o.greatest x.stand.rest x.field y.field x.wrong wrong in
+    let fields : x.field ≡ y.field = one_wrong (least_behind o.rising o.least x.front) o.greatest x.stand.rest x.field y.field x.wrong
+    wrong in
     x.place_is ∙ ap (λ (f : ItemField). length (items_bytes x.front) + offset f) fields
     ∙ ap (λ (l : List Item). length (items_bytes l) + offset y.field) (sym fronts) ∙ sym y.place_is
 

@@ -10,7 +10,8 @@ use Rattle.ncc_wire.specs.declared.kind.Kind.{Kind}
 use Rattle.ncc_wire.specs.declared.kind.Kind.TheVariants as k
 use Rattle.ncc_wire.specs.Judged.{Reads, items_of}
 use Rattle.ncc_wire.specs.Kinds.{fields}
-use Rattle.ncc_wire.specs.Reading.{Breaks, Front, Refuses, Stand, at_end, at_field, at_item, behind, behind_fields, front_at, listed, listing}
+use Rattle.ncc_wire.specs.Reading.{Breaks, Front, Refuses, Stand, at_end, at_field, at_item, behind, behind_fields, front_at, listed}
+use Rattle.ncc_wire.specs.Reading.{listing}
 use Rattle.ncc_wire.proofs.Fields.{Within, fields_within}
 use Rattle.ncc_wire.proofs.Wholes.{parted}
 use Rattle.ncc_wire.proofs.Lists.{not_broken, one_break, one_stand}
@@ -107,7 +108,8 @@ read_not_refused _ _ e n _ r (at_end c bytes g items h s m lt) =
 pub one_refusal : (c : ℕ) (bytes : List ℕ) (e f : FrameError) → Refuses c bytes e → Refuses c bytes f → e ≡ f
 one_refusal c bytes e f x y = go c bytes e x f y
   where
-    second : (c : ℕ) (bytes : List ℕ) (g : Front) (place : ℕ) (f : FrameError) → front_at c bytes ≡ Ok g → Breaks (listed g) (behind g) place →
+    second : (c : ℕ) (bytes : List ℕ) (g : Front) (place : ℕ) (f : FrameError) → front_at c bytes ≡ Ok g →
+        Breaks (listed g) (behind g) place →
         Refuses c bytes f → BadField (behind_fields g.kind + place) ≡ f
     second _ _ g place _ d b (at_field c bytes f h) = absurd (not_both c bytes g f d h)
     second _ _ g place _ d b (at_item c bytes k other h w) =
@@ -117,7 +119,8 @@ one_refusal c bytes e f x y = go c bytes e x f y
         ∙ ap (λ (x : Front). BadField (behind_fields x.kind + other)) same
     second _ _ g place _ d b (at_end c bytes k items h s m lt) = absurd (whole_list c bytes k g items place h d s m b)
 
-    third : (c : ℕ) (bytes : List ℕ) (g : Front) (items : List Item) (f : FrameError) → front_at c bytes ≡ Ok g → Stand (listed g) (behind g) items →
+    third : (c : ℕ) (bytes : List ℕ) (g : Front) (items : List Item) (f : FrameError) → front_at c bytes ≡ Ok g →
+        Stand (listed g) (behind g) items →
         length items ≡ (listed g).count → Refuses c bytes f → Rest (behind_fields g.kind + length (items_bytes items)) ≡ f
     third _ _ g items _ d s m (at_field c bytes f h) = absurd (not_both c bytes g f d h)
     third _ _ g items _ d s m (at_item c bytes k place h w) = absurd (whole_list c bytes g k items place d h s m w)

@@ -145,7 +145,11 @@ fine_of (VoteReply t g) h = record {
   short = omega arith;
 }
 fine_of (Append t p q c items) h = record {
-  within = (omega arith, omega (arith, h.0), (omega arith, omega (arith, h.1), (omega arith, omega (arith, h.2), (omega arith, omega (arith, h.3), (omega arith, h.5.number, tt)))));
+  within = (
+    omega arith,
+    omega (arith, h.0),
+    (omega arith, omega (arith, h.1), (omega arith, omega (arith, h.2), (omega arith, omega (arith, h.3), (omega arith, h.5.number, tt)))),
+  );
   terms = rising_of q t items h.4;
   entries = h.5.entries;
   short = omega (arith, h.5.bytes, append_long t p q c items);
@@ -252,19 +256,23 @@ held f n = written f.wide n
 pub is_body : (b : Body) → Fine b → IsBody (kind_of b) b (body_bytes b)
 unfolding body_bytes counted
 is_body (VoteAsk t p l) f = let w = f.within in
-    asks t p l (held term t) (held any_number p) (held term l) (spells term t w.0 w.1) (spells any_number p w.2.0 w.2.1) (spells term l w.2.2.0 w.2.2.1)
+    asks t p l (held term t) (held any_number p) (held term l) (spells term t w.0 w.1) (spells any_number p w.2.0 w.2.1)
+    (spells term l w.2.2.0 w.2.2.1)
 is_body (VoteReply t g) f = let w = f.within in
     votes t g (held term t) (held flag (flag_of g)) (spells term t w.0 w.1) (spells flag (flag_of g) w.2.0 w.2.1)
 is_body (Append t p q c items) f = let w = f.within in
-    appends t p q c items (held term t) (held behind_place p) (held term q) (held any_number c) (held item_count (length items)) (items_bytes items)
+    appends t p q c items (held term t) (held behind_place p) (held term q) (held any_number c) (held item_count (length items))
+    (items_bytes items)
     (spells term t w.0 w.1) (spells behind_place p w.2.0 w.2.1) (spells term q w.2.2.0 w.2.2.1) (spells any_number c w.2.2.2.0 w.2.2.2.1)
     (spells item_count (length items) w.2.2.2.2.0 w.2.2.2.2.1) (falls_never q t items f.terms) (record { entries = f.entries; same = refl })
 is_body (AppendReply t g p) f = let w = f.within in
-    answers t p g (held term t) (held flag (flag_of g)) (held any_number p) (spells term t w.0 w.1) (spells flag (flag_of g) w.2.0 w.2.1) (spells any_number p w.2.2.0 w.2.2.1)
+    answers t p g (held term t) (held flag (flag_of g)) (held any_number p) (spells term t w.0 w.1) (spells flag (flag_of g) w.2.0 w.2.1)
+    (spells any_number p w.2.2.0 w.2.2.1)
 is_body (Pull have) f = pulls have (held behind_place have) (spells behind_place have f.within.0 f.within.1)
 is_body (Batch first items) f = let w = f.within in
     gives first items (held first_place first) (held item_count (length items)) (items_bytes items)
-    (spells first_place first w.0 w.1) (spells item_count (length items) w.2.0 w.2.1) (terms_of items f.terms) (record { entries = f.entries; same = refl })
+    (spells first_place first w.0 w.1) (spells item_count (length items) w.2.0 w.2.1) (terms_of items f.terms)
+    (record { entries = f.entries; same = refl })
 
 -- ---- one body for one kind, numbers and items
 
@@ -294,5 +302,6 @@ body_back (Batch first items) = refl
 pub one_body : (a b : Body) → kind_of a ≡ kind_of b → numbers a ≡ numbers b → items_of a ≡ items_of b → a ≡ b
 one_body a b k n i =
     let same : Some a ≡ Some b = sym (body_back a) ∙ ap (λ (x : Kind). body_from x (numbers a) (items_of a)) k
-    ∙ ap (λ (x : List ℕ). body_from (kind_of b) x (items_of a)) n ∙ ap (λ (x : List Item). body_from (kind_of b) (numbers b) x) i ∙ body_back b in
+    ∙ ap (λ (x : List ℕ). body_from (kind_of b) x (items_of a)) n ∙ ap (λ (x : List Item). body_from (kind_of b) (numbers b) x) i
+    ∙ body_back b in
     cc

@@ -76,7 +76,8 @@ asks_put b t p l init m n new is e f g =
 pub votes_put : (b : Body) (t : ℕ) (g : Bool) (init m new : List ℕ) → b ≡ VoteReply t g → m ≡ init ++ to_be_bytes w64 t →
     new ≡ m ++ flag_of g ∷ [] → new ≡ init ++ body_bytes b
 unfolding body_bytes
-votes_put b t g init m new is e f = whole init (eight t ++ flag_of g ∷ []) new b (VoteReply t g) (more init (eight t) m (flag_of g ∷ []) new e f) is refl
+votes_put b t g init m new is e f = whole init (eight t ++ flag_of g ∷ []) new b (VoteReply t g)
+    (more init (eight t) m (flag_of g ∷ []) new e f) is refl
 
 pub appends_put : (b : Body) (t p q c : ℕ) (items : List Item) (init m n o r new : List ℕ) → b ≡ Append t p q c items →
     m ≡ init ++ to_be_bytes w64 t → n ≡ m ++ to_be_bytes w64 p → o ≡ n ++ to_be_bytes w64 q → r ≡ o ++ to_be_bytes w64 c
@@ -101,14 +102,16 @@ pub pulls_put : (b : Body) (have : ℕ) (init new : List ℕ) → b ≡ Pull hav
 unfolding body_bytes
 pulls_put b have init new is e = whole init (eight have) new b (Pull have) e is refl
 
-pub gives_put : (b : Body) (first : ℕ) (items : List Item) (init m new : List ℕ) → b ≡ Batch first items → m ≡ init ++ to_be_bytes w64 first →
+pub gives_put : (b : Body) (first : ℕ) (items : List Item) (init m new : List ℕ) → b ≡ Batch first items →
+    m ≡ init ++ to_be_bytes w64 first →
     new ≡ m ++ counted items → new ≡ init ++ body_bytes b
 unfolding body_bytes
 gives_put b first items init m new is e f =
     whole init (eight first ++ counted items) new b (Batch first items) (more init (eight first) m (counted items) new e f) is refl
 
 -- size, cluster, the three bytes, and the body
-pub frame_put : (c size kind : ℕ) (e : Envelope) (init m n o new : List ℕ) → size ≡ 11 + length (body_bytes e.body) → kind ≡ code (kind_of e.body) →
+pub frame_put : (c size kind : ℕ) (e : Envelope) (init m n o new : List ℕ) → size ≡ 11 + length (body_bytes e.body) →
+    kind ≡ code (kind_of e.body) →
     m ≡ init ++ to_be_bytes w32 size → n ≡ m ++ to_be_bytes w64 c → o ≡ n ++ kind ∷ (e.from ∷ (e.to ∷ [])) → new ≡ o ++ body_bytes e.body
     → new ≡ init ++ frame_bytes c e
 frame_put c size kind e init m n o new s k x y z w =
@@ -117,7 +120,8 @@ frame_put c size kind e init m n o new s k x y z w =
     let a = more init four m (eight c) n x y in
     let b = more init (four ++ eight c) n three o a z in
     let d = more init (four ++ eight c ++ three) o (body_bytes e.body) new b w in
-    let regrouped : four ++ eight c ++ three ++ body_bytes e.body ≡ four ++ (eight c ++ (kind ∷ (e.from ∷ (e.to ∷ body_bytes e.body)))) = refl in
+    let regrouped : four ++ eight c ++ three ++ body_bytes e.body ≡ four ++ (eight c ++ (kind ∷ (e.from ∷ (e.to ∷ body_bytes e.body)))) =
+    refl in
     let same : four ++ eight c ++ three ++ body_bytes e.body ≡ frame_bytes c e = regrouped
     ∙ ap (λ (n : ℕ). four ++ (eight c ++ (n ∷ (e.from ∷ (e.to ∷ body_bytes e.body))))) k
     ∙ ap (λ (l : List ℕ). four ++ l) (sym (content_is c e))

@@ -129,7 +129,8 @@ module _ (c : ℕ) (e : Envelope) where
       let b = owner_again c (frame_bytes c e) (kind_of e.body) (e.from ∷ (e.to ∷ body_bytes e.body)) s.cluster drop_4 in
       let d = fields_again members 13 (frame_bytes c e) (between_of e) (body_bytes e.body)
       (omega arith, (omega arith, tt)) (members_within e s.from s.to) drop_13 in
-      let g = fields_again (fields (kind_of e.body)) 15 (frame_bytes c e) (numbers e.body) (items_bytes (items_of e.body)) (sound (kind_of e.body))
+      let g = fields_again (fields (kind_of e.body)) 15 (frame_bytes c e) (numbers e.body) (items_bytes (items_of e.body))
+      (sound (kind_of e.body))
       s.fine.within drop_15 in
       ap (λ (r : Result (List ℕ) FrameError). r >>= λ frame. kind_at c frame >>= λ kind. fields_at members 13 frame >>= λ between.
       fields_at (fields kind) 15 frame >>= λ ns. Ok (record { frame = frame; kind = kind; between = between; numbers = ns })) a
@@ -149,7 +150,8 @@ module _ (c : ℕ) (e : Envelope) where
       let items = drop_items s.fine in
       let long : length (body_bytes e.body) ≡ widths (fields (kind_of e.body)) + length (items_bytes (items_of e.body)) =
       ap length (body_is e.body) ∙ length-append (spelled (fields (kind_of e.body)) (numbers e.body)) (items_bytes (items_of e.body))
-      ∙ ap (λ (n : ℕ). n + length (items_bytes (items_of e.body))) (spelled_long (fields (kind_of e.body)) (numbers e.body) s.fine.within) in
+      ∙ ap (λ (n : ℕ). n + length (items_bytes (items_of e.body))) (spelled_long (fields (kind_of e.body)) (numbers e.body) s.fine.within)
+      in
       record {
         front = front_of c e;
         front_is = ap (front_at c) same ∙ front_again s rest;
@@ -200,7 +202,8 @@ pub record Written (c : ℕ) (bytes : List ℕ) (e : Envelope) (n : ℕ) : Type 
   pub length_is : n ≡ length (frame_bytes c e)
 
 -- nothing is behind the items
-ended : (xs ys : List ℕ) (items : List Item) → xs ≡ items_bytes items ++ ys → length xs ≤ length (items_bytes items) → xs ≡ items_bytes items
+ended : (xs ys : List ℕ) (items : List Item) → xs ≡ items_bytes items ++ ys → length xs ≤ length (items_bytes items) →
+    xs ≡ items_bytes items
 ended xs ys items e le =
     let none : ys ≡ [] = nil_from_length ys (omega (arith, ap length e, length-append (items_bytes items) ys)) in
     e ∙ ap (λ (l : List ℕ). items_bytes items ++ l) none ∙ append-nil (items_bytes items)
@@ -218,7 +221,8 @@ written_by c bytes e n few all r =
     subst (λ (k : Kind). Within (fields k) (numbers e.body)) r.kind_is (subst (Within (fields f.kind)) r.numbers_are h.within) in
     let listed_is : listed f ≡ listing_of e.body = ap (λ (k : Kind). listing k f.numbers) r.kind_is
     ∙ ap (listing (kind_of e.body)) r.numbers_are in
-    let items : drop (behind_fields f.kind) f.frame ≡ items_bytes (items_of e.body) = ended (behind f) r.stand.rest (items_of e.body) r.stand.same
+    let items : drop (behind_fields f.kind) f.frame ≡ items_bytes (items_of e.body) =
+    ended (behind f) r.stand.rest (items_of e.body) r.stand.same
     (omega (arith, r.whole, length-drop (behind_fields f.kind) f.frame)) in
     let body : drop 15 f.frame ≡ body_bytes e.body = h.same ∙ ap (λ (l : List ℕ). spelled (fields f.kind) f.numbers ++ l) items
     ∙ ap (λ (l : List ℕ). spelled (fields f.kind) l ++ items_bytes (items_of e.body)) r.numbers_are

@@ -1,4 +1,4 @@
--- Laws of the format. Numbers of bytes are below 256, and a cluster's number below 2^64.
+-- Laws of the format. A cluster has a number below 2^64.
 use Rattle.std.specs.Prelude.{◌≡◌, ◌↔◌, ℕ, ◌^◌, ◌<◌, List, ◌++◌}
 use Rattle.ncc_raft.specs.declared.message.Envelope.{Envelope}
 use Rattle.ncc_raft.specs.Carried.{Carried}

@@ -7,7 +7,8 @@ use Rattle.ncc_wire.proofs.body.append.Goals as goal
 pub returns-in_err-fields : goal.returns-in_err-fields
 returns-in_err-fields c =
     let p = err_from_is_err_and c.from_residual.result c.from_residual.ensures.1 in
-    no_fields_of k.Append k.Append c.args.frame.now c.from_residual.result p.0 c.in_err-fields.field-0.0 refl p.1 p.2 c.in_err-fields.ensures.exact
+    no_fields_of k.Append k.Append c.args.frame.now c.from_residual.result p.0 c.in_err-fields.field-0.0 refl p.1 p.2
+    c.in_err-fields.ensures.exact
 
 pub returns-in_err-items : goal.returns-in_err-items
 returns-in_err-items c =
