@@ -1,0 +1,4 @@
+pub mod Answered
+pub mod Shelved
+pub mod Serving
+pub mod Live
