@@ -6,6 +6,8 @@ import sys
 TOP = os.path.dirname(os.path.dirname(os.path.abspath(__file__)))
 RUNS = 4
 WORK = 0.12
+# how often works take turns
+TURNS = 12
 # the works that ended otherwise than they should
 wrong = []
 
@@ -63,6 +65,12 @@ def text(i):
 
 # ---- the runs
 
+def keep_heap():
+    """From now on the programs' heaps keep what is given back to them: else a pass that holds more than a few hundred KB asks the system
+    for its pages each time."""
+    os.environ.update({"MALLOC_TRIM_THRESHOLD_": str(2 ** 30), "MALLOC_TOP_PAD_": str(2 ** 26), "MALLOC_MMAP_THRESHOLD_": str(2 ** 29)})
+
+
 def seconds(program, work, times, path, refused=False):
     """The processor's time of one run, whose input is refused or not."""
     with open(path, "rb") as source:
@@ -86,6 +94,15 @@ def each(program, work, path, refused=False):
         times *= 4
     times = max(1, round(times * WORK / max(took, 1e-3)))
     return min(seconds(program, work, times, path, refused) - floor for _ in range(RUNS)) / times
+
+
+def in_turns(program, works):
+    """The times of one pass of each of some works with their inputs. They take turns, so that what else the machine does falls on each
+    alike."""
+    floors = [min(seconds(program, work, 0, path) for _ in range(3)) for work, path in works]
+    passes = [max(1, round(WORK / each(program, work, path))) for work, path in works]
+    rounds = [[seconds(program, work, times, path) for (work, path), times in zip(works, passes)] for _ in range(TURNS)]
+    return [(min(took) - floor) / times for took, floor, times in zip(zip(*rounds), floors, passes)]
 
 
 def written(folder, name, content):
