@@ -14,7 +14,7 @@
 //! - `judge`: the input is a list of bytes, each with their length in front. Of each it prints in a line what frame they begin with.
 //! - `requests`, `ready` and `serve`: the input is what a client sends to log in, with its length in front, the length of a piece
 //!   in four bytes, and requests. A connection of its own is fed these pieces and told facts at once (`sessions.rt`), or is served
-//!   with all the bytes by what tells facts at once, or by a shelf (`served.rt`).
+//!   by what tells facts at once, or by a shelf (`served.rt`): as many bytes a read as are taken, or one with `ready` and pieces of one.
 #![tactic(auto)]
 
 mod cores;
@@ -32,7 +32,7 @@ use ncc_bolt::read_request;
 use ncc_chunk::{Dechunk, Dechunker};
 use ncc_cypher::parse;
 use ncc_pack::{Bytes, PackError, Value, decode, encode};
-use served::{ready_often, serve_often};
+use served::{ready_often, serve_often, single_often};
 use std::alloc::{AllocError, Global};
 use std::io::Read;
 use std::process::ExitCode;
@@ -184,17 +184,19 @@ fn client_passes(alloc: Global, bytes: &[u8], work: &str, times: u32) -> Result<
     let Some((login, [a, b, c, d, requests @ ..])) = first_part(bytes) else {
         return Ok(0);
     };
+    let piece = u32::from_be_bytes([*a, *b, *c, *d]) as usize;
     if work == "serve" || work == "ready" {
         let mut all = Bytes::new(alloc);
         all.extend(login)?;
         all.extend(requests)?;
         return if work == "serve" {
             serve_often(alloc, all.as_slice(), times)
+        } else if piece == 1 {
+            single_often(alloc, all.as_slice(), times)
         } else {
             ready_often(alloc, all.as_slice(), times)
         };
     }
-    let piece = u32::from_be_bytes([*a, *b, *c, *d]) as usize;
     if piece == 0 {
         return Ok(0);
     }
