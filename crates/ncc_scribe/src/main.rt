@@ -4,6 +4,7 @@
 //! - `write FILE CLUSTER MEMBER SAVES ITEMS ENTRY` recovers the journal, or creates it where the file is empty, and saves so
 //!   often so many items with the entry that the file ENTRY spells. It prints the length of the log behind each save; one that is refused is
 //!   tried once more.
+//! - `changes SAVES ITEMS ENTRY` makes the changes that so many saves are asked for, and prints a line behind each, without a journal.
 //! - `bare FILE SAVES BYTES` makes the writes and syncs of so many saves whose payload has so many bytes.
 //! - `syncs FILE SAVES` makes as many syncs as these, each behind a write of one byte.
 #![tactic(auto)]
@@ -154,6 +155,19 @@ fn write_all<R: Runtime>(
     Ok(true)
 }
 
+/// Makes the changes of so many saves, and tells of each, without a journal.
+fn make_all<R: Runtime>(rt: &R, alloc: Global, work: &Work) -> io::Result<bool> {
+    let mut keep = 0u64;
+    let mut out = io::writer(rt);
+    for _ in 0..work.saves {
+        let change = change_of(alloc, 1, keep, work.entry, work.items)?;
+        keep = keep.saturating_add(change.items.len() as u64);
+        writeln!(out, "made {keep}")?;
+        out.flush()?;
+    }
+    Ok(true)
+}
+
 /// The writes and syncs of a save, without a journal.
 fn bare_save(disk: &mut FileDisk, at: u64, body: &[u8]) -> bool {
     disk.write(at, body).is_ok()
@@ -226,6 +240,27 @@ fn write<R: Runtime<File = File, A = Global>>(rt: &R, words: &[String]) -> io::R
     }
 }
 
+/// Reads the words of `changes` behind its name, and does it.
+fn changes<R: Runtime<File = File, A = Global>>(rt: &R, words: &[String]) -> io::Result<bool> {
+    let [saves, items, entry] = words else {
+        return Ok(false);
+    };
+    let (Ok(saves), Ok(items)) = (saves.parse::<u32>(), items.parse::<u32>()) else {
+        return Ok(false);
+    };
+    let alloc = rt.alloc();
+    let spelled = fs::read(rt, entry.as_str())?;
+    let Ok(entry) = entry_of(alloc, spelled.as_slice()) else {
+        return Ok(false);
+    };
+    let work = Work {
+        saves,
+        items,
+        entry: &entry,
+    };
+    make_all(rt, alloc, &work)
+}
+
 /// Reads the words and does what they say.
 fn run<R: Runtime<File = File, A = Global>>(rt: &R, words: &[String]) -> io::Result<bool> {
     let [_, work, rest @ ..] = words else {
@@ -233,6 +268,9 @@ fn run<R: Runtime<File = File, A = Global>>(rt: &R, words: &[String]) -> io::Res
     };
     if work.as_str() == "write" {
         return write(rt, rest);
+    }
+    if work.as_str() == "changes" {
+        return changes(rt, rest);
     }
     let [path, first, more @ ..] = rest else {
         return Ok(false);
