@@ -4,10 +4,11 @@
     bench/serve/hostile.py           builds the proved program, and runs it
     bench/serve/hostile.py PROGRAM   takes this program for ncc_bench
 
-Up to 256 MB of no-ops, messages of as many bytes as one may have, a message that never ends, and 100,000 requests in one piece. Of each the
-time a byte, which should stay the same, and the memory that a session holds beyond its input while it is fed, which should too: what
-the system tells every two milliseconds in the second half of a longer run. The time of a served connection has the copies of the input in
-it that its source makes. The status is 0 where each run ended as it should, and no session held more than its row may.
+Up to 256 MB of no-ops, messages of as many bytes as one may have, a message that never ends, 100,000 keys, a MiB of bookmarks, and up to
+100,000 requests in one piece: statements, RESETs, and PULLs that are ignored. Of each the time a byte, which should stay the same from the
+second row on (the first is a few microseconds), and the memory that a session holds beyond its input while it is fed, which should too:
+what the system tells every two milliseconds in the second half of a longer run. The time of a served connection has the copies of the input
+in it that its source makes. The status is 0 where each run ended as it should, and no session held more than its row may.
 """
 import os
 import subprocess
@@ -19,9 +20,11 @@ HERE = os.path.dirname(os.path.abspath(__file__))
 sys.dont_write_bytecode = True
 sys.path.insert(0, os.path.dirname(HERE))
 from measure import pack, proved, written, wrong  # noqa: E402
-from sessions import STEP, PULL, autocommit, given  # noqa: E402
+from sessions import PULL, STEP, autocommit, given, message  # noqa: E402
 
 PIECE = 8_192
+RESET = message(0x0F)
+BOOKMARK = "ncc:AQAAAAAAAAABAAAAAAAAAAAA"
 # a message has at most so many bytes
 MESSAGE = 1_048_576
 MB = 2 ** 20
@@ -90,6 +93,11 @@ def longest(more=0):
     return chunked(front + b"\xd2" + size.to_bytes(4, "big") + b"x" * size + b"\xa0") + PULL
 
 
+def statement(parameters, extra):
+    """RUN "RETURN 1" with these dictionaries."""
+    return chunked(b"\xb3\x10" + pack("RETURN 1") + pack(parameters) + pack(extra))
+
+
 def main():
     program = sys.argv[1] if len(sys.argv) > 1 else proved()
     print(f"{'':36}{'':9}{'session':>11}{'':12}{'served':>13}")
@@ -104,6 +112,16 @@ def main():
         row(program, folder, "a message of 1 MiB and a byte", longest(1), 64 * MB, status=1)
         for size in [2, 64, 256]:
             row(program, folder, "a message that never ends", chunked(b"x" * (size * MB), ended=False), 64 * MB, status=1)
+        for count in [1_000, 10_000, 100_000]:
+            row(program, folder, f"{count:,} keys", statement({f"k{key:05}": 1 for key in range(count)}, {}) + PULL, 64 * MB)
+        for count in [340, 3_400, 34_000]:
+            row(program, folder, f"{count:,} bookmarks", statement({}, {"bookmarks": [BOOKMARK] * count}) + RESET, 64 * MB)
+        for count in [1_000, 10_000, 100_000]:
+            row(program, folder, f"{count:,} bookmarks that are none", statement({}, {"bookmarks": [""] * count}) + RESET, 64 * MB)
+        for count in [1_000, 10_000, 100_000]:
+            row(program, folder, f"{count:,} RESETs in one piece", RESET * count, 64 * MB, piece=2 ** 31, served=False)
+            ignored = message(0x10, "RETURM", {}, {}) + message(0x3F, {"n": 1}) * count + RESET
+            row(program, folder, f"{count:,} PULLs in one piece, ignored", ignored, 64 * MB, piece=2 ** 31, served=False)
         for count in [1_000, 10_000, 100_000]:
             row(program, folder, f"{count:,} requests in one piece", autocommit(count // 2), 64 * MB, piece=2 ** 31, served=False)
     print("\nall as it should be" if not wrong else f"\n{len(wrong)} not as it should be")
