@@ -89,7 +89,9 @@ fn answer_all(alloc: Global, conn: &mut Conn) -> Result<(), Memory> {
 fn feed_one(alloc: Global, conn: &mut Conn, piece: &[u8]) -> Result<u64, Memory> {
     conn.feed(piece)?;
     answer_all(alloc, conn)?;
-    Ok(conn.take_out().len() as u64)
+    let count = conn.out().len() as u64;
+    conn.clear_out();
+    Ok(count)
 }
 
 /// A connection of a client that has logged in.

@@ -81,8 +81,9 @@ fn put_out<K: Sink>(conn: &mut Conn, output: &mut K) -> Result<(), Broken>
     ensures never_falls { K.faults output.old ≤ K.faults output.new }
     ensures failed { IsErrOf result Broken.Write → Rose (K.faults output.old) (K.faults output.new) }
 {
-    let bytes = conn.take_out();
-    put(bytes.as_slice(), output)
+    put(conn.out(), output)?;
+    conn.clear_out();
+    Ok(())
 }
 
 // Answers the question that waits: one reading of the clock, one answer. Says whether one waited.

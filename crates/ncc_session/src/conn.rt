@@ -18,6 +18,9 @@ use ncc_pack::{Bytes, Memory};
 use std::alloc::{AllocError, Global};
 use std::marker::Model;
 
+// So much room for bytes to hand out stays with a connection.
+const KEPT_ROOM: usize = 65_536;
+
 /// A server's side of a client's session. It is fed the client's bytes in any pieces and told facts, and hands out the bytes that
 /// go to the client and the questions that wait for facts. It keeps no history.
 #[derive(Drop)]
@@ -161,6 +164,25 @@ impl Conn {
         )?;
         self.spent = false;
         Ok(())
+    }
+
+    /// The bytes that were written and not yet handed out. It takes no memory.
+    pub fn out(&self) -> &[u8]
+        ensures bytes { result.now ≡ self.now.out }
+    {
+        self.out.as_slice()
+    }
+
+    /// Hands out the bytes that `out` tells. Up to 65,536 bytes of their room stay for what is written next. It takes no memory.
+    pub fn clear_out(&mut self)
+        ensures handed { HandsOut self.old self.old.out self.new }
+        ensures rest { self.new ≡ record self.old { out = [] } }
+    {
+        let mut bytes = self.take_out();
+        if bytes.len() <= KEPT_ROOM {
+            bytes.truncate(0);
+            self.out = bytes;
+        }
     }
 
     /// Hands out the bytes written since the last call. It takes no memory.
