@@ -1,0 +1,7 @@
+pub mod Members
+pub mod Run
+pub mod Turn
+pub mod Moment
+pub mod Four
+pub mod Lawful
+pub mod Laws

@@ -1,0 +1,10 @@
+//! The clients of a cluster: what they ask, how a member answers, and what holds of every run, whatever the members are.
+#![tactic(auto)]
+
+mod laws;
+mod members;
+mod told;
+
+pub use laws::{all_is_kept, one_way, rest_forgets_nobody};
+pub use members::Members;
+pub use told::Told;
