@@ -1,0 +1,41 @@
+-- The own step of an event, by its kind.
+use Rattle.std.proofs.Common.{◌≡◌, ℕ, ◌-◌, List, length, true, false, refl}
+use Rattle.std.specs.Prelude.{slice_get}
+use Rattle.ncc_bookmark.specs.Point.{Point}
+use Rattle.ncc_clients.specs.Run.{ticked, opened, moved}
+use Rattle.ncc_world.specs.declared.setup.Setup.{Setup}
+use Rattle.ncc_world.specs.declared.event.Event.TheVariants.{Time, Put, Get, Apply, Open, Bytes, Close}
+use Rattle.ncc_world.specs.Setting.{cluster_of, lagging}
+use Rattle.ncc_world.specs.Requests.{put_request, get_request}
+use Rattle.ncc_world.specs.Happening.{ListRun, own, asks, feeds, closes_one}
+
+pub own_time : (s : Setup) (r : ListRun) (to : ℕ) → ticked r to ≡ own s (Time to) r
+unfolding own
+own_time s r to = refl
+
+pub own_put : (s : Setup) (r : ListRun) (member : ℕ) (key value : List ℕ) (bookmarks : List Point)
+    → asks s r member (put_request key value bookmarks) ≡ own s (Put member key value bookmarks) r
+unfolding own
+own_put s r member key value bookmarks = refl
+
+pub own_get : (s : Setup) (r : ListRun) (member : ℕ) (key : List ℕ) (bookmarks : List Point)
+    → asks s r member (get_request key bookmarks) ≡ own s (Get member key bookmarks) r
+unfolding own
+own_get s r member key bookmarks = refl
+
+pub own_apply : (s : Setup) (r : ListRun) (member count : ℕ)
+    → moved (cluster_of s) r (lagging r.members member count) ≡ own s (Apply member count) r
+unfolding own
+own_apply s r member count = refl
+
+pub own_open : (s : Setup) (r : ListRun) (member : ℕ) → opened r member true ≡ own s (Open member) r
+unfolding own
+own_open s r member = refl
+
+pub own_bytes : (s : Setup) (r : ListRun) (conn : ℕ) (bytes : List ℕ) → feeds s r (conn - 1) bytes ≡ own s (Bytes conn bytes) r
+unfolding own
+own_bytes s r conn bytes = refl
+
+pub own_close : (s : Setup) (r : ListRun) (conn : ℕ) → closes_one r (conn - 1) (slice_get r.clients (conn - 1)) ≡ own s (Close conn) r
+unfolding own
+own_close s r conn = refl

@@ -1,0 +1,144 @@
+-- Worked cases: what proposing, applying, refusing and waiting come to.
+use Rattle.std.proofs.Common.{◌≡◌, ℕ, zero, suc, ◌+◌, ◌-◌, ◌<◌, ◌≤◌, nat_le, nat_lt, Bool, true, false, cond, ◌&&◌, List, [], ◌∷◌, ◌++◌}
+use Rattle.std.proofs.Common.{length}
+use Rattle.std.proofs.Common.{Some, None, refl, ap, ◌∙◌, arith, subst, le-leb, lt-ltb, le-ltb}
+use Rattle.std.proofs.lemmas.Bool.{lt-leb}
+use Rattle.std.specs.Prelude.{slice_get, slice_set, replicate}
+use Rattle.ncc_tx.specs.declared.entry.Entry.{Entry}
+use Rattle.ncc_bolt.specs.declared.message.Request.{Request}
+use Rattle.ncc_session.specs.Question.{enter}
+use Rattle.ncc_session.specs.declared.ask.Fact.TheVariants.{Entered, Late}
+use Rattle.ncc_wait.specs.declared.outcomes.Outcome.TheVariants.{Ready, NotYet, Late as IsLate}
+use Rattle.ncc_wait.specs.Waiting.{outcome_of}
+use Rattle.ncc_clients.specs.Members.{Proposed, full, placed, at_of}
+use Rattle.ncc_clients.specs.Run.{Client, question_of, deadline_of, reply, reply_by, enters, waits, tells, opened, with_bytes, fed}
+use Rattle.ncc_world.specs.declared.setup.Setup.{Setup}
+use Rattle.ncc_world.specs.declared.event.Event.TheVariants as event
+use Rattle.ncc_world.specs.declared.error.WorldError.TheVariants as error
+use Rattle.ncc_world.specs.Setting.{IsSetup, Lists, cluster_of, nobody, list_at, appended}
+use Rattle.ncc_world.specs.Requests.{client_bytes}
+use Rattle.ncc_world.specs.Happening.{ListRun, unless, is_printed, is_open_made, refusal, feeds_one, own, asks}
+
+-- ---- members
+
+full_or : (lists : Lists) (entry : Entry) → Bool → Proposed Lists
+full_or lists entry b = cond b (full (length (list_at lists 1))) (placed (length (list_at lists 1) + 1) 1 (appended lists entry))
+
+pub first_entry : (s : Setup) (entry : Entry) → IsSetup s
+    → (cluster_of s).propose (nobody s) 1 entry ≡ placed 1 1 (appended (nobody s) entry)
+unfolding full_or
+first_entry s entry h =
+    let none : list_at (nobody s) 1 ≡ [] = go (s.cores + s.replicas) in
+    let len : length (list_at (nobody s) 1) ≡ 0 = ap length none in
+    let more : nat_le s.limit (length (list_at (nobody s) 1)) ≡ false =
+    lt-leb s.limit (length (list_at (nobody s) 1)) (omega (arith, h.limit.0, len)) in
+    ap (full_or (nobody s) entry) more ∙ ap (λ n. placed (n + 1) 1 (appended (nobody s) entry)) len
+  where
+    go : (n : ℕ) → list_at (replicate n []) 1 ≡ []
+    go zero = refl
+    go (suc n) = refl
+
+pub full_log : (s : Setup) (lists : Lists) (entry : Entry) → length (list_at lists 1) ≡ s.limit
+    → (cluster_of s).propose lists 1 entry ≡ full s.limit
+unfolding full_or
+full_log s lists entry e =
+    let enough : nat_le s.limit (length (list_at lists 1)) ≡ true = le-leb s.limit (length (list_at lists 1)) (omega (arith, e)) in
+    ap (full_or lists entry) enough ∙ ap full e
+
+-- ---- events
+
+pub clock_stands : (r : ListRun) → refusal r (event.Time r.now) ≡ None
+clock_stands r = ap (λ b. unless b error.BackInTime) (le-leb r.now r.now (omega arith))
+
+pub clock_back : (r : ListRun) (to : ℕ) → to < r.now → refusal r (event.Time to) ≡ Some error.BackInTime
+clock_back r to h = ap (λ b. unless b error.BackInTime) (lt-leb r.now to h)
+
+pub leader_lags_not : (r : ListRun) (count : ℕ) → 1 ≤ length r.members → refusal r (event.Apply 1 count) ≡ Some error.WrongRole
+leader_lags_not r count h =
+    ap (λ b. cond (true && b) (Some error.WrongRole) (Some error.NoMember)) (le-leb 1 (length r.members) h)
+
+get_last : {X : Type 0} (xs : List X) (x : X) → slice_get (xs ++ (x ∷ [])) (length xs) ≡ Some x
+get_last [] x = refl
+get_last (y ∷ xs) x = get_last xs x
+
+get_set : {X : Type 0} (xs : List X) (i : ℕ) (x y : X) → slice_get xs i ≡ Some x → slice_get (slice_set xs i y) i ≡ Some y
+get_set [] i x y e = absurd (cc)
+get_set (z ∷ xs) zero x y e = refl
+get_set (z ∷ xs) (suc i) x y e = get_set xs i x y e
+
+-- the connection of a `put` or a `get` was made by no `open`
+not_printed : (s : Setup) (r : ListRun) (member : ℕ) (request : Request)
+    → is_printed (slice_get (asks s r member request).clients (length r.clients)) ≡ false
+not_printed s r member request =
+    let c : Client = record {
+      number = length r.clients + 1;
+      member = member;
+      bytes = [];
+      facts = [];
+      since = r.now;
+      placing = None;
+      closed = false;
+      printed = false;
+    } in
+    let there : slice_get (r.clients ++ (c ∷ [])) (length r.clients) ≡ Some c = get_last r.clients c in
+    let new : Client = with_bytes (cluster_of s) r.now c (client_bytes request) in
+    let then_ : slice_get (slice_set (r.clients ++ (c ∷ [])) (length r.clients) new) (length r.clients) ≡ Some new =
+    get_set (r.clients ++ (c ∷ [])) (length r.clients) c new there in
+    let fed_is : asks s r member request ≡ fed (cluster_of s) (opened r member false) (length r.clients) c (client_bytes request) =
+    ap (feeds_one s (opened r member false) (length r.clients) (client_bytes request)) there in
+    ap (λ (x : ListRun). is_printed (slice_get x.clients (length r.clients))) fed_is ∙ ap is_printed then_
+
+pub unnamed : (s : Setup) (r : ListRun) (member : ℕ) (request : Request) (bytes : List ℕ)
+    → refusal (asks s r member request) (event.Bytes (length r.clients + 1) bytes) ≡ Some error.NoConn
+unnamed s r member request bytes =
+    let index : length r.clients ≡ length r.clients + 1 - 1 = omega arith in
+    let low : nat_le 1 (length r.clients + 1) ≡ true = le-leb 1 (length r.clients + 1) (omega arith) in
+    let not : is_printed (slice_get (asks s r member request).clients (length r.clients + 1 - 1)) ≡ false =
+    subst (λ i. is_printed (slice_get (asks s r member request).clients i) ≡ false) index (not_printed s r member request) in
+    let made : is_open_made (asks s r member request) (length r.clients + 1) ≡ false =
+    ap (λ b. b && is_printed (slice_get (asks s r member request).clients (length r.clients + 1 - 1))) low ∙ not in
+    ap (λ b. unless b error.NoConn) made
+
+pub closed_stays : (s : Setup) (r : ListRun) (conn : ℕ) (c : Client) (bytes : List ℕ) → slice_get r.clients (conn - 1) ≡ Some c
+    → c.closed ≡ true → own s (event.Bytes conn bytes) r ≡ r
+unfolding own
+closed_stays s r conn c bytes e f =
+    ap (feeds_one s r (conn - 1) bytes) e ∙ ap (λ b. cond b r (fed (cluster_of s) r (conn - 1) c bytes)) f
+
+-- ---- waits
+
+reply_is : (s : Setup) (r : ListRun) (c : Client) (need : ℕ) → question_of (cluster_of s) c ≡ Some (enter need)
+    → reply (cluster_of s) r c ≡ enters (at_of (cluster_of s) r.members c.member) need r.now
+    (outcome_of (at_of (cluster_of s) r.members c.member) need r.now (deadline_of (cluster_of s) c))
+unfolding reply
+reply_is s r c need e = ap (reply_by (cluster_of s) r c) e
+
+pub waits_at_deadline : (s : Setup) (r : ListRun) (c : Client) (need : ℕ) → question_of (cluster_of s) c ≡ Some (enter need)
+    → at_of (cluster_of s) r.members c.member < need → r.now ≡ deadline_of (cluster_of s) c → reply (cluster_of s) r c ≡ waits
+waits_at_deadline s r c need e h f =
+    let at : ℕ = at_of (cluster_of s) r.members c.member in
+    let below : nat_le need at ≡ false = lt-leb need at h in
+    let not : nat_lt (deadline_of (cluster_of s) c) r.now ≡ false = le-ltb (deadline_of (cluster_of s) c) r.now (omega (arith, f)) in
+    reply_is s r c need e
+    ∙ (ap (λ b. enters at need r.now (cond b Ready (cond (nat_lt (deadline_of (cluster_of s) c) r.now) IsLate NotYet))) below
+    ∙ ap (λ b. enters at need r.now (cond b IsLate NotYet)) not)
+
+pub late_past_it : (s : Setup) (r : ListRun) (c : Client) (need : ℕ) → question_of (cluster_of s) c ≡ Some (enter need)
+    → at_of (cluster_of s) r.members c.member < need → r.now ≡ deadline_of (cluster_of s) c + 1
+    → reply (cluster_of s) r c ≡ tells (Late need (at_of (cluster_of s) r.members c.member) r.now)
+late_past_it s r c need e h f =
+    let at : ℕ = at_of (cluster_of s) r.members c.member in
+    let below : nat_le need at ≡ false = lt-leb need at h in
+    let past : nat_lt (deadline_of (cluster_of s) c) r.now ≡ true = lt-ltb (deadline_of (cluster_of s) c) r.now (omega (arith, f)) in
+    reply_is s r c need e
+    ∙ (ap (λ b. enters at need r.now (cond b Ready (cond (nat_lt (deadline_of (cluster_of s) c) r.now) IsLate NotYet))) below
+    ∙ ap (λ b. enters at need r.now (cond b IsLate NotYet)) past)
+
+pub enters_at_once : (s : Setup) (r : ListRun) (c : Client) (need : ℕ) → question_of (cluster_of s) c ≡ Some (enter need)
+    → need ≤ at_of (cluster_of s) r.members c.member
+    → reply (cluster_of s) r c ≡ tells (Entered (at_of (cluster_of s) r.members c.member))
+enters_at_once s r c need e h =
+    let at : ℕ = at_of (cluster_of s) r.members c.member in
+    reply_is s r c need e
+    ∙ ap (λ b. enters at need r.now (cond b Ready (cond (nat_lt (deadline_of (cluster_of s) c) r.now) IsLate NotYet)))
+    (le-leb need at h)

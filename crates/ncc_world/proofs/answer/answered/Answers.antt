@@ -1,0 +1,28 @@
+use Rattle.std.proofs.Common.{◌≡◌, ◌∙◌, ap, sym, get_or, ◌-◌, List, []}
+use Rattle.std.proofs.lemmas.Result.{IfOk-weaker}
+use Rattle.ncc_tx.specs.declared.entry.Item.{Item}
+use Rattle.ncc_session.specs.declared.ask.Ask.{Ask}
+use Rattle.ncc_session.specs.declared.ask.Fact.TheVariants.{Routed}
+use Rattle.ncc_session.specs.Core.{question_of}
+use Rattle.ncc_store.specs.Exec.{call_of}
+use Rattle.std.proofs.Common.{map}
+use Rattle.ncc_clients.specs.Run.{answers, runs, tells}
+use Rattle.ncc_world.specs.Setting.{cluster_of}
+use Rattle.ncc_world.proofs.answer.answered.Goals as goal
+
+pub returns-in-Run : goal.returns-in-Run
+returns-in-Run c = record {
+  exact = IfOk-weaker c.rows.result _ _ (λ a f r d k asks.
+      let none : List Item = [] in
+      f c.args.setup.now r.members (get_or r.members (c.args.member - 1) none) (c.shelf-shelf.ensures.stands c.args.setup.now r.members k)
+      ∙ ap (λ m. runs ((cluster_of c.args.setup.now).leads r.members m) (get_or r.members (m - 1) none) (map call_of c.in-Run.steps)) asks.member_is
+      ∙ ap (λ (q : Ask). answers (cluster_of c.args.setup.now) r d (question_of q)) (sym c.in-Run.is)) c.rows.ensures;
+}
+
+pub returns-in-Route : goal.returns-in-Route
+returns-in-Route c = record {
+  exact = λ r d k asks.
+      ap (λ n. tells (Routed n)) (c.leader.ensures.leader r.members)
+      ∙ ap (λ m. tells (Routed ((cluster_of c.args.setup.now).leader r.members m))) asks.member_is
+      ∙ ap (λ (q : Ask). answers (cluster_of c.args.setup.now) r d (question_of q)) (sym c.in-Route.is);
+}

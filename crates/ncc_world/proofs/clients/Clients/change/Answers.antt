@@ -1,0 +1,112 @@
+use Rattle.std.proofs.Common.{◌≡◌, ◌<◌, ◌≤◌, ◌+◌, ◌-◌, ◌^◌, min, ◌∙◌, ap, sym, length, arith, subst, List, get_or, Some}
+use Rattle.std.specs.Prelude.{slice_get, slice_set}
+use Rattle.ncc_world.specs.declared.seen.ConnSeen.{ConnSeen}
+use Rattle.ncc_world.specs.declared.served.Served.{Served}
+use Rattle.std.proofs.lemmas.Option.{slice_get-get_or}
+use Rattle.std.proofs.lemmas.List.{get_or-set_same}
+use Rattle.ncc_world.specs.World.{AreServed, IsClient, asked_by, parked_by, placing_of}
+use Rattle.ncc_world.specs.Parts.{changed, parked_anew}
+use Rattle.ncc_world.proofs.Keeping.{Here, clients_count, client_at, there_at, here_at, changed_same, changed_all}
+use Rattle.ncc_world.proofs.clients.Clients.change.Goals as goal
+
+pub index_mut-requires-2 : goal.index_mut-requires-2
+index_mut-requires-2 c =
+    let k = c.requires.served in
+    let n = clients_count k.setup _ _ k.clients k.are.each in
+    omega (arith, n.table, n.seen, c.requires.there, ap length c.taken-list.ensures.same)
+
+pub index-requires : goal.index-requires
+index-requires c =
+    let k = c.requires.served in
+    let n = clients_count k.setup _ _ k.clients k.are.each in
+    omega (arith, n.table, n.seen, c.requires.there, ap length c.taken-list.ensures.same)
+
+pub index-requires-2 : goal.index-requires-2
+index-requires-2 c =
+    let k = c.requires.served in
+    let n = clients_count k.setup _ _ k.clients k.are.each in
+    omega (arith, n.table, n.seen, c.requires.there, ap length c.taken-list.ensures.same)
+
+pub change_one-changed-requires : goal.change_one-changed-requires
+change_one-changed-requires c =
+    let v = c.index_mut.result.now in
+    record {
+      may = c.requires.may v (slice_get-get_or _ c.args.index v c.requires.there ∙ ap (λ (x : Served). Some x) (sym c.index_mut.ensures.value));
+    }
+
+same_number : (a b m : ConnSeen) (low : 1 ≤ m.member) → a ≡ b → b.member ≡ m.member → 1 ≤ a.member
+same_number a b m low e f = omega (arith, low, f, ap (λ (x : ConnSeen). x.member) e)
+
+pub overflow_sub-member : goal.overflow_sub-member
+overflow_sub-member c =
+    let k = c.requires.served in
+    let n = clients_count k.setup _ _ k.clients k.are.each in
+    let old = c.index_mut-2.result.now in
+    let new = c.change_one-changed.new.seen in
+    let h = here_at k.setup k.count _ k.clients c.args.index c.index_mut.result.now old k.are c.requires.there c.index_mut.ensures.value
+    (c.index_mut-2.ensures.value ∙ ap (λ (l : List ConnSeen). get_or l c.args.index old) c.taken-list.ensures.same) in
+    let same : c.index-2.result.now ≡ new =
+    c.index-2.ensures ∙ get_or-set_same c.taken-list.result.items c.args.index new c.index-2.result.now
+    (omega (arith, n.table, n.seen, c.requires.there, ap length c.taken-list.ensures.same)) in
+    omega (arith, h.placed.low, h.is.kept.member, c.change_one-changed.ensures.member, ap (λ (x : ConnSeen). x.member) same)
+
+pub index_mut-room-requires : goal.index_mut-room-requires
+index_mut-room-requires c =
+    let k = c.requires.served in
+    let n = clients_count k.setup _ _ k.clients k.are.each in
+    let old = c.index_mut-2.result.now in
+    let new = c.change_one-changed.new.seen in
+    let h = here_at k.setup k.count _ k.clients c.args.index c.index_mut.result.now old k.are c.requires.there c.index_mut.ensures.value
+    (c.index_mut-2.ensures.value ∙ ap (λ (l : List ConnSeen). get_or l c.args.index old) c.taken-list.ensures.same) in
+    let same : c.index-2.result.now ≡ new =
+    c.index-2.ensures ∙ get_or-set_same c.taken-list.result.items c.args.index new c.index-2.result.now
+    (omega (arith, n.table, n.seen, c.requires.there, ap length c.taken-list.ensures.same)) in
+    omega (arith, h.placed.low, h.placed.high, h.is.kept.member, c.change_one-changed.ensures.member, ap (λ (x : ConnSeen). x.member) same, k.are.count_is)
+
+pub returns : goal.returns
+returns c = record {
+  ok = λ s count clients d a there e.
+      let index = c.args.index in
+      let v = c.index_mut.result.now in
+      let old = c.index_mut-2.result.now in
+      let w = c.change_one-changed.new.served in
+      let shown = c.change_one-changed.new.seen in
+      let room = c.index_mut-room.result.now in
+      let table = c.args.self.now.table.items in
+      let seen = c.args.self.now.seen in
+      let rooms = c.args.self.now.rooms.items in
+      let n = clients_count s table seen clients a.each in
+      let within : index < length c.taken-list.result.items =
+      omega (arith, n.table, n.seen, c.requires.there, ap length c.taken-list.ensures.same) in
+      let e1 : c.index.result.now ≡ shown =
+      c.index.ensures ∙ get_or-set_same c.taken-list.result.items index shown c.index.result.now within in
+      let e2 : c.index-2.result.now ≡ shown =
+      c.index-2.ensures ∙ get_or-set_same c.taken-list.result.items index shown c.index-2.result.now within in
+      let e3 : c.index-3.result.now ≡ w =
+      c.index-3.ensures ∙ get_or-set_same table index w c.index-3.result.now c.requires.there in
+      let list : c.from_vec.result ≡ slice_set seen index shown =
+      c.from_vec.ensures.same ∙ ap (λ (l : List ConnSeen). slice_set l index shown) c.taken-list.ensures.same in
+      let client : IsClient s v old d =
+      client_at s table seen clients index v old d a.each there c.index_mut.ensures.value
+      (c.index_mut-2.ensures.value ∙ ap (λ (l : List ConnSeen). get_or l index old) c.taken-list.ensures.same) in
+      let placed = there_at _ clients index d a.there there in
+      let may = c.requires.may v (slice_get-get_or table index v c.requires.there ∙ ap (λ (x : Served). Some x) (sym c.index_mut.ensures.value)) in
+      let all = changed_all s count _ clients index d (changed s c.args.now d c.args.what) w shown c.park.new.room room c.args.wait a there
+      placed (changed_same s c.args.now d c.args.what v.conn placed.placed may) (c.in_ok-changed.ensures.ok s d client) e
+      (c.index_mut-room.ensures.value ∙ ap (λ (x : ConnSeen). get_or rooms (x.member - 1) room) e2)
+      (c.in_ok-park.ensures.ok
+      ∙ ap (λ (x : ConnSeen). parked_anew x.conn (parked_by x.conn (min (c.index-3.result.now.since + c.args.wait) (2 ^ 64 - 1))
+      (placing_of c.index-3.result.now.placing) (asked_by c.index-3.result.now)) room) e1
+      ∙ ap (λ (x : Served). parked_anew shown.conn (parked_by shown.conn (min (x.since + c.args.wait) (2 ^ 64 - 1)) (placing_of x.placing)
+      (asked_by x)) room) e3) in
+      subst (λ (x : ConnSeen). AreServed s count (record {
+        table = slice_set table index w;
+        seen = c.from_vec.result;
+        rooms = slice_set rooms (x.member - 1) c.park.new.room;
+      }) (slice_set clients index (changed s c.args.now d c.args.what))) (sym e2)
+      (subst (λ (l : List ConnSeen). AreServed s count (record {
+        table = slice_set table index w;
+        seen = l;
+        rooms = slice_set rooms (shown.member - 1) c.park.new.room;
+      }) (slice_set clients index (changed s c.args.now d c.args.what))) (sym list) all);
+}

@@ -1,0 +1,39 @@
+use Rattle.std.proofs.Common.{◌≡◌, ◌<◌, ◌≤◌, ◌∙◌, ap, sym, refl, subst, length, arith, get_or, Some, Bool, append-nil, List, [], ◌++◌}
+use Rattle.std.specs.Prelude.{slice_set, slice_get}
+use Rattle.ncc_world.specs.Happening.{ListRun}
+use Rattle.ncc_world.specs.World.{RunsAs, AreServed}
+use Rattle.ncc_world.specs.Setting.{cluster_of, lagging}
+use Rattle.ncc_world.specs.Parts.{run_in, clients_in, members_in}
+use Rattle.std.proofs.lemmas.List.{length-set}
+use Rattle.ncc_tx.specs.declared.entry.Item.{Item}
+use Rattle.ncc_world.proofs.Listing.{shelf_count, longest_is}
+use Rattle.ncc_world.proofs.Happened.{member_ends}
+use Rattle.ncc_world.proofs.running.Running.apply.Goals as goal
+
+pub apply-requires-clause-there : goal.apply-requires-clause-there
+apply-requires-clause-there c =
+    let k = c.requires.live.runs_as in
+    let r = c.requires.live.run in
+    let m = member_ends r c.args.member (c.requires.there r k).0 in
+    (m.low_is, omega (arith, m.high_is, shelf_count _ _ r.members k.members.shelves))
+
+pub returns : goal.returns
+returns c = record {
+  ok = λ r k.
+      let s = c.args.setup.now in
+      let t = c.requires.there r k in
+      let m = member_ends r c.args.member t.0 in
+      let other = t.1 in
+      let far : 1 < c.args.member = omega (arith, m.low_is, other) in
+      let lists = lagging r.members c.args.member c.args.count in
+      let now = c.in_ok-apply.ensures.ok s r.members k.members far in
+      let whole : r.history ++ [] ≡ c.apply.new.self.items = append-nil r.history ∙ sym (c.in_ok-apply.ensures.same ∙ k.history) in
+      let none : List Item = [] in
+      record {
+        now = k.now;
+        history = sym (longest_is r.history none c.apply.new.self.items _ lists now.shelves now.first now.some whole);
+        members = now;
+        clients = subst (λ n. AreServed s n (clients_in c.args.self.now.clients) r.clients) (sym (length-set r.members _ _)) k.clients;
+        told = k.told;
+      };
+}

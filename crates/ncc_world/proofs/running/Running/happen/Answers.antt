@@ -1,0 +1,23 @@
+use Rattle.std.proofs.Common.{◌≡◌, ◌<◌, ◌≤◌, ◌∙◌, ap, sym, refl, subst, length, arith, get_or, Some, Bool, append-nil, List, [], ◌++◌}
+use Rattle.std.specs.Prelude.{slice_set, slice_get}
+use Rattle.ncc_world.specs.Happening.{ListRun}
+use Rattle.ncc_world.specs.World.{RunsAs, AreServed}
+use Rattle.ncc_world.specs.Setting.{cluster_of, lagging}
+use Rattle.ncc_world.specs.Parts.{run_in, clients_in, members_in}
+use Rattle.ncc_world.specs.Happening.{own}
+use Rattle.ncc_world.proofs.running.Running.happen.Goals as goal
+
+pub settle-requires : goal.settle-requires
+settle-requires c = record {
+  live = record {
+    run = own c.args.setup.now c.args.event.now c.requires.live.run;
+    runs_as = c.in_ok-step.ensures.ok c.requires.live.run c.requires.live.runs_as;
+  };
+}
+
+pub returns : goal.returns
+returns c = record {
+  ok = λ r k.
+      let t = c.in_ok-settle.ensures.ok (own c.args.setup.now c.args.event.now r) (c.in_ok-step.ensures.ok r k) in
+      (t.0, record { allowed = c.requires.taken r k; settles = t.1 }, t.2);
+}

@@ -1,0 +1,9 @@
+pub mod Setting
+pub mod Events
+pub mod Requests
+pub mod Happening
+pub mod Showing
+pub mod World
+pub mod Parts
+pub mod Inner
+pub mod Headline

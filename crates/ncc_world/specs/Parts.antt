@@ -1,0 +1,138 @@
+-- What the parts of a world do. No public clause speaks of it.
+use Rattle.std.specs.Prelude.{◌≡◌, ℕ, ◌+◌, ◌<◌, Bool, true, false, if◌then◌else◌, ◌||◌, min, nat_lt, List, [], ◌∷◌, ◌++◌, length}
+use Rattle.std.specs.Prelude.{Option, Some, None, slice_get, slice_set, IsTrue}
+use Rattle.ncc_wait.specs.declared.outcomes.Outcome.{Outcome}
+use Rattle.ncc_wait.specs.declared.parked.Parked.{Parked}
+use Rattle.ncc_wait.specs.Room.{put, without}
+use Rattle.ncc_tx.specs.declared.entry.Entry.{Entry}
+use Rattle.ncc_session.specs.declared.ask.Fact.{Fact}
+use Rattle.ncc_session.specs.Question.{Question}
+use Rattle.ncc_session.specs.Talk.{Talk, asked, fits_at}
+use Rattle.ncc_clients.specs.Members.{Proposed, elsewhere, full, placed}
+use Rattle.ncc_clients.specs.Run.{Run, Client, Placing, Reply, waits, tells, proposes, with_bytes, with_fact, with_placing, deadline_of, question_of}
+use Rattle.ncc_clients.specs.Four.{Begins}
+use Rattle.ncc_clients.specs.Turn.{Turn, AtRest, Does, IsEntryOf, acts}
+use Rattle.ncc_world.specs.declared.setup.Setup.{Setup}
+use Rattle.ncc_world.specs.declared.seen.ConnSeen.{ConnSeen}
+use Rattle.ncc_world.specs.declared.served.Place.{Place}
+use Rattle.ncc_world.specs.declared.served.Served.{Served}
+use Rattle.ncc_world.specs.declared.served.Change.{Change}
+use Rattle.ncc_world.specs.declared.served.Change.TheVariants as change
+use Rattle.ncc_world.specs.declared.members.Members.{Members}
+use Rattle.ncc_world.specs.declared.members.Proposal.{Proposal}
+use Rattle.ncc_world.specs.declared.members.Proposal.TheVariants as proposal
+use Rattle.ncc_world.specs.declared.clients.Clients.{Clients}
+use Rattle.ncc_world.specs.declared.answer.Reply as declared
+use Rattle.ncc_world.specs.declared.answer.Reply.TheVariants as answer
+use Rattle.ncc_world.specs.declared.running.Running.{Running}
+use Rattle.ncc_world.specs.Setting.{Lists, cluster_of}
+use Rattle.ncc_world.specs.Happening.{ListRun}
+use Rattle.ncc_world.specs.World.{KeptMembers, KeptClients, KeptRun, AreMembers, AreServed, RunsAs, placing_of}
+
+abbrev pub members_in : Members → KeptMembers
+members_in m = record { items = m.items; shelves = m.shelves.items; seen = m.seen }
+
+abbrev pub clients_in : Clients → KeptClients
+clients_in k = record { table = k.table.items; seen = k.seen; rooms = k.rooms.items }
+
+abbrev pub run_in : Running → KeptRun
+run_in w = record { now = w.clock; members = members_in w.members; clients = clients_in w.clients; told = w.told }
+
+-- it stands for some run
+pub record HasRun (s : Setup) (w : Running) : Type 0 where
+  pub run : ListRun
+  pub runs_as : RunsAs s (run_in w) run
+
+-- ---- members
+
+pub record HasLists (s : Setup) (m : Members) : Type 0 where
+  pub lists : Lists
+  pub are : AreMembers s (members_in m) lists
+
+-- what became of an entry
+abbrev pub IsProposed : Setup → Lists → Proposed Lists → Proposal → KeptMembers → Type 0
+IsProposed s lists elsewhere p m = (p ≡ proposal.Elsewhere) × AreMembers s m lists
+IsProposed s lists (full entries) p m = (p ≡ proposal.Full entries) × AreMembers s m lists
+IsProposed s lists (placed place term after) p m =
+    (p ≡ proposal.Placed (record { place = place; term = term })) × AreMembers s m after
+
+-- ---- connections
+
+pub record HasClients (k : Clients) : Type 0 where
+  pub setup : Setup
+  pub count : ℕ
+  pub clients : List Client
+  pub are : AreServed setup count (clients_in k) clients
+
+-- what changes at a connection: bytes came in, a fact was told, its entry was placed, or it was closed
+abbrev pub changed : Setup → ℕ → Client → Change → Client
+changed s now c (change.Fed piece) = with_bytes (cluster_of s) now c piece
+changed s now c (change.Told fact) = with_fact now c fact
+changed s now c (change.Placed p) = with_placing now c p.place p.term
+changed s now c change.Closed = record c { closed = true }
+
+-- a fact answers the question that waits, and a place is one
+abbrev pub MayChange : Change → Talk → Type 0
+MayChange (change.Told fact) talk = IsTrue (fits_at (asked talk) fact)
+MayChange (change.Placed p) talk = 0 < p.place
+MayChange _ talk = Unit {0}
+
+-- who waits where this connection, by its number, now waits so
+abbrev pub parked_anew : ℕ → Option Parked → List Parked → List Parked
+parked_anew number None room = without number room
+parked_anew number (Some p) room = put p (without number room)
+
+-- the lower of two numbers
+abbrev pub number_of : Option (ℕ × Outcome) → Option ℕ
+number_of None = None
+number_of (Some x) = Some x.0
+
+abbrev pub lower : Option ℕ → Option ℕ → Option ℕ
+lower None b = b
+lower (Some x) None = Some x
+lower (Some x) (Some y) = if nat_lt y x then Some y else Some x
+
+-- the number of the first that passes a test
+unfoldable pub first_where : (Client → Bool) → List Client → Option ℕ
+first_where test [] = None
+first_where test (c ∷ cs) = if test c then Some c.number else first_where test cs
+
+-- the number of the first that acts
+abbrev pub first_acting : Setup → ListRun → Option ℕ
+first_acting s r = first_where (acts (cluster_of s) r) r.clients
+
+-- ---- answers
+
+abbrev pub placed_at : Place → Placing
+placed_at p = record { place = p.place; term = p.term }
+
+abbrev pub reply_in : declared.Reply → Reply
+reply_in answer.Waits = waits
+reply_in (answer.Tells fact) = tells fact
+reply_in answer.Proposes = proposes
+
+-- what a question is answered by, of the connection
+pub record IsAskedOf (s : Setup) (now : ℕ) (member deadline : ℕ) (placing : Option Place) (r : ListRun) (c : Client) : Type 0 where
+  pub now_is : now ≡ r.now
+  pub member_is : member ≡ c.member
+  pub deadline_is : deadline ≡ deadline_of (cluster_of s) c
+  pub placing_is : placing_of placing ≡ c.placing
+
+-- what became of the entry of a connection's question, where the members alone have changed
+pub record Offered (s : Setup) (r : ListRun) (c : Client) (p : Proposal) (old new : Running) : Type 0 where
+  pub entry : Entry
+  pub entry_is : IsEntryOf (question_of (cluster_of s) c) entry
+  pub proposed_so : IsProposed s r.members ((cluster_of s).propose r.members c.member entry) p (members_in new.members)
+  pub clock : new.clock ≡ old.clock
+  pub clients : new.clients ≡ old.clients
+  pub told : new.told ≡ old.told
+  pub grows : Begins old.members.items new.members.items
+
+-- it stands for a run that this reply makes
+abbrev pub DoesTo : Setup → ℕ → ListRun → ℕ → Client → Reply → KeptRun → Type 0
+DoesTo s line r index c reply k = (t : ListRun) × Does (cluster_of s) line r index c reply t × RunsAs s k t
+
+-- a turn was made, or nobody acts
+abbrev pub TurnBy : Setup → ℕ → ListRun → KeptRun → Bool → Type 0
+TurnBy s line r k true = (t : ListRun) × Turn (cluster_of s) line r t × RunsAs s k t
+TurnBy s line r k false = AtRest (cluster_of s) r × RunsAs s k r

@@ -1,0 +1,173 @@
+-- What a world keeps, and the runs that it stands for. It keeps no client's bytes: a connection keeps what it needs of them.
+use Rattle.std.specs.Prelude.{◌≡◌, ℕ, ◌+◌, ◌-◌, ◌<◌, ◌≤◌, Bool, true, false, if◌then◌else◌, ◌==◌, List, [], ◌∷◌, ◌++◌, length, map}
+use Rattle.std.specs.Prelude.{Option, Some, None, slice_get, slice_index_or}
+use Rattle.std.specs.List.{AllByRecursion, flat_map}
+use Rattle.ncc_wait.specs.declared.parked.Parked.{Parked}
+use Rattle.ncc_tx.specs.declared.entry.Item.{Item}
+use Rattle.ncc_apply.specs.Shelf.{Shown as Shelved, Stands as ShelfStands}
+use Rattle.ncc_session.specs.declared.ask.Fact.{Fact}
+use Rattle.ncc_session.specs.Question.{Question, enter, leave, run, leave_noop, route, some_writes}
+use Rattle.ncc_session.specs.Talk.{Talk, Stands as TalkStands, asked, fits_at}
+use Rattle.ncc_clients.specs.declared.told.Told.{Told}
+use Rattle.ncc_clients.specs.Members.{Cluster, Proposed, elsewhere, full, placed, config_of}
+use Rattle.ncc_clients.specs.Run.{Run, Client, Placing, Reply, waits, tells, proposes, question_of, deadline_of, with_bytes, with_fact}
+use Rattle.ncc_clients.specs.Run.{with_placing}
+use Rattle.ncc_world.specs.declared.setup.Setup.{Setup}
+use Rattle.ncc_world.specs.declared.error.Which.{Which}
+use Rattle.ncc_world.specs.declared.error.WorldError.{WorldError}
+use Rattle.ncc_world.specs.declared.error.WorldError.TheVariants.{Memory, Limit}
+use Rattle.ncc_world.specs.declared.seen.MemberSeen.{MemberSeen}
+use Rattle.ncc_world.specs.declared.seen.ConnSeen.{ConnSeen}
+use Rattle.ncc_world.specs.declared.served.Place.{Place}
+use Rattle.ncc_world.specs.declared.served.Served.{Served}
+use Rattle.ncc_world.specs.Setting.{Lists, cluster_of, list_at}
+use Rattle.ncc_world.specs.Happening.{ListRun}
+use Rattle.ncc_world.specs.Showing.{members_from, conn_seen}
+
+-- it goes on; or a limit was passed, or memory was wanting, and it answers so from then on
+pub data Standing : Type 0 where
+  alive : Standing
+  past : Which → Standing
+  spent : Standing
+
+-- ---- members: the one list, and what each has applied of it
+
+pub record KeptMembers : Type 0 where
+  pub items : List Item
+  pub shelves : List Shelved
+  pub seen : List MemberSeen
+
+-- a member has applied the beginning of the one list
+pub record IsShelf (items : List Item) (shelf : Shelved) (list : List Item) : Type 0 where
+  pub stands : ShelfStands shelf list
+  pub rest : List Item
+  pub begins : list ++ rest ≡ items
+
+unfoldable pub AreShelves : List Item → List Shelved → Lists → Type 0
+AreShelves items [] [] = Unit {0}
+AreShelves items (shelf ∷ shelves) (list ∷ lists) = IsShelf items shelf list × AreShelves items shelves lists
+AreShelves items _ _ = ⊥
+
+-- member 1 has applied it all
+pub record AreMembers (s : Setup) (m : KeptMembers) (lists : Lists) : Type 0 where
+  pub shelves : AreShelves m.items m.shelves lists
+  pub first : list_at lists 1 ≡ m.items
+  pub some : 0 < length lists
+  pub seen : m.seen ≡ members_from s 1 lists
+
+-- ---- connections: what is kept of each, what each shows, and who waits at each member
+
+pub record KeptClients : Type 0 where
+  pub table : List Served
+  pub seen : List ConnSeen
+  pub rooms : List (List Parked)
+
+abbrev pub placing_of : Option Place → Option Placing
+placing_of None = None
+placing_of (Some p) = Some (record { place = p.place; term = p.term })
+
+-- the question that waits; once it is closed there is none
+abbrev pub asked_by : Served → Option Question
+asked_by v = if v.closed then None else asked v.conn
+
+-- Its session was fed the client's bytes and told its facts; what it wrote last, and where it stands, may not be shown yet.
+pub record IsKept (s : Setup) (v : Served) (seen : ConnSeen) (c : Client) : Type 0 where
+  pub talk : TalkStands v.conn (config_of (cluster_of s) c.number) c.bytes c.facts seen.out
+  pub since : v.since ≡ c.since
+  pub placing : placing_of v.placing ≡ c.placing
+  pub closed : v.closed ≡ c.closed
+  pub conn : seen.conn ≡ c.number
+  pub member : seen.member ≡ c.member
+  pub printed : seen.printed ≡ c.printed
+
+-- and all of it is shown
+pub record IsClient (s : Setup) (v : Served) (seen : ConnSeen) (c : Client) : Type 0 where
+  pub kept : IsKept s v seen c
+  pub handed : v.conn.out ≡ []
+  pub seen_is : seen ≡ conn_seen s c
+
+unfoldable pub AreClients : Setup → List Served → List ConnSeen → List Client → Type 0
+AreClients s [] [] [] = Unit {0}
+AreClients s (v ∷ vs) (seen ∷ seens) (c ∷ cs) = IsClient s v seen c × AreClients s vs seens cs
+AreClients s _ _ _ = ⊥
+
+-- they have the numbers from this one on
+unfoldable pub AreNumbered : ℕ → List Client → Type 0
+AreNumbered from [] = Unit {0}
+AreNumbered from (c ∷ cs) = (c.number ≡ from) × AreNumbered (from + 1) cs
+
+-- its member is one of so many, and the place of its proposal is one
+abbrev pub IsSomewhere : Option Placing → Type 0
+IsSomewhere None = Unit {0}
+IsSomewhere (Some p) = 0 < p.place
+
+pub record IsThere (count : ℕ) (c : Client) : Type 0 where
+  pub low : 1 ≤ c.member
+  pub high : c.member ≤ count
+  pub placed : IsSomewhere c.placing
+
+-- each connection with a question waits at its member for the place that it needs, 0 for what can be answered at once
+abbrev pub place_for : Option Placing → ℕ
+place_for None = 0
+place_for (Some p) = p.place
+
+abbrev pub need_for : Question → Option Placing → ℕ
+need_for (enter need) placing = need
+need_for (leave calls told) placing = if some_writes calls then place_for placing else 0
+need_for _ placing = 0
+
+abbrev pub parked_by : ℕ → ℕ → Option Placing → Option Question → Option Parked
+parked_by number deadline placing None = None
+parked_by number deadline placing (Some question) =
+    Some (record { conn = number; need = need_for question placing; deadline = deadline })
+
+abbrev pub parked_of : Setup → Client → Option Parked
+parked_of s c = parked_by c.number (deadline_of (cluster_of s) c) c.placing (question_of (cluster_of s) c)
+
+abbrev pub listed : Option Parked → List Parked
+listed None = []
+listed (Some p) = p ∷ []
+
+abbrev pub parked_one : Setup → ℕ → Client → List Parked
+parked_one s member c = if c.member == member then listed (parked_of s c) else []
+
+unfoldable pub parked_at : Setup → ℕ → List Client → List Parked
+parked_at s member [] = []
+parked_at s member (c ∷ cs) = parked_one s member c ++ parked_at s member cs
+
+pub record AreServed (s : Setup) (count : ℕ) (k : KeptClients) (clients : List Client) : Type 0 where
+  pub each : AreClients s k.table k.seen clients
+  pub numbered : AreNumbered 1 clients
+  pub there : AllByRecursion (IsThere count) clients
+  pub count_is : length k.rooms ≡ count
+  pub rooms : (index : ℕ) → index < count → slice_index_or k.rooms index [] ≡ parked_at s (index + 1) clients
+
+-- ---- which runs it stands for
+
+pub record KeptRun : Type 0 where
+  pub now : ℕ
+  pub members : KeptMembers
+  pub clients : KeptClients
+  pub told : List Told
+
+pub record RunsAs (s : Setup) (k : KeptRun) (r : ListRun) : Type 0 where
+  pub now : k.now ≡ r.now
+  pub history : k.members.items ≡ r.history
+  pub members : AreMembers s k.members r.members
+  pub clients : AreServed s (length r.members) k.clients r.clients
+  pub told : k.told ≡ r.told
+
+pub record Kept : Type 0 where
+  pub setup : Setup
+  pub standing : Standing
+  pub run : KeptRun
+
+pub record Stands (w : Kept) (r : ListRun) : Type 0 where
+  pub goes_on : w.standing ≡ alive
+  pub runs_as : RunsAs w.setup w.run r
+
+-- an error that refuses an event
+abbrev pub is_refusal : WorldError → Bool
+is_refusal Memory = false
+is_refusal (Limit which) = false
+is_refusal _ = true

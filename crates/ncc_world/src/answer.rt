@@ -1,0 +1,187 @@
+//! How a member answers a question.
+
+ghost use Rattle.std.specs.Prelude.{◌≡◌, ◌≤◌, ◌&&◌, not, List, map, length, IfOk};
+ghost use Rattle.ncc_wait.specs.Waiting.{outcome_of};
+ghost use Rattle.ncc_store.specs.Exec.{call_of, exec};
+ghost use Rattle.ncc_tx.specs.State.{state};
+ghost use Rattle.ncc_tx.specs.declared.entry.Item.{Item as Items};
+ghost use Rattle.ncc_apply.specs.Shelf.{Stands as ShelfStands};
+ghost use Rattle.ncc_session.specs.Core.{question_of};
+ghost use Rattle.ncc_session.specs.Question.{call_writes, last_writes};
+ghost use Rattle.ncc_clients.specs.Run.{Client, answers, enters, runs, ran, leaves, last_rows, lands, found_at};
+ghost use Rattle.ncc_world.specs.Setting.{Lists, cluster_of};
+ghost use Rattle.ncc_world.specs.Happening.{ListRun};
+ghost use Rattle.ncc_world.specs.World.{AreMembers, placing_of};
+ghost use Rattle.ncc_world.specs.Parts.{IsAskedOf, members_in, placed_at, reply_in};
+ghost use Rattle.ncc_world.specs.declared.setup.Setup.{Setup as Setups};
+
+use crate::members::{Members, leader, leads};
+use crate::served::Place;
+use crate::setup::Setup;
+use ncc_apply::{Shelf, Stamp, View};
+use ncc_pack::{Memory, Rows, Sequence};
+use ncc_session::{Ask, Fact};
+use ncc_store::{RowLists, RunError, Step, Steps};
+use ncc_wait::{Outcome, outcome};
+use std::alloc::{AllocError, Global};
+
+/// What a member does with the question of a connection.
+#[derive(Drop)]
+pub(crate) enum Reply {
+    /// It waits.
+    Waits,
+    /// It is answered.
+    Tells(Fact),
+    /// Its entry is proposed.
+    Proposes,
+}
+
+// Whether a transaction may begin.
+fn enter(at: u64, need: u64, now: u64, deadline: u64) -> Reply
+    ensures { reply_in result ≡ enters at need now (outcome_of at need now deadline) }
+{
+    match outcome(at, need, now, deadline) {
+        Outcome::Ready => Reply::Tells(Fact::Entered { at }),
+        Outcome::NotYet => Reply::Waits,
+        Outcome::Late => Reply::Tells(Fact::Late { need, at, now }),
+    }
+}
+
+fn step_writes(step: &Step) -> bool
+    ensures { result ≡ call_writes (call_of step.now) }
+{
+    step.statement.writes()
+}
+
+// Says whether the last step writes.
+fn is_write(steps: &[Step]) -> bool
+    ensures { result ≡ last_writes (map call_of steps.now) }
+{
+    match steps.last() {
+        Some(step) => step_writes(step),
+        None => false,
+    }
+}
+
+// The rows of the last step.
+fn last_of(alloc: Global, lists: RowLists) -> Rows
+    ensures { result ≡ last_rows lists }
+{
+    let mut lists = lists.into_vec();
+    match lists.pop() {
+        Some(rows) => rows,
+        None => Sequence::new(alloc),
+    }
+}
+
+// What steps give over the store of a member.
+fn run(alloc: Global, shelf: &Shelf, steps: &Steps) -> Result<Fact, Memory>
+    ensures { IfOk result (λ fact. (h : List Items) → ShelfStands shelf.now h →
+        fact ≡ ran (length h) (exec (state h) (map call_of steps.now))) }
+{
+    let at = shelf.at();
+    match shelf.run(alloc, steps) {
+        Ok(ran) => Ok(Fact::Rows {
+            at,
+            rows: last_of(alloc, ran.rows),
+        }),
+        Err(RunError::Fault(fault)) => Ok(Fact::Faulted { at, fault }),
+        Err(RunError::Memory) => Err(AllocError),
+    }
+}
+
+// Says whether a member leaves the last step to the leader.
+fn is_refused(member: u8, steps: &Steps) -> bool
+    ensures { (s : Setups) (lists : Lists) → result ≡ (last_writes (map call_of steps.now) && not ((cluster_of s).leads lists member)) }
+{
+    is_write(steps.as_slice()) && !leads(member)
+}
+
+// The rows of the last step: a member that does not lead runs none that writes.
+fn rows(alloc: Global, shelf: &Shelf, member: u8, steps: &Steps) -> Result<Reply, Memory>
+    ensures { IfOk result (λ r. (s : Setups) (lists : Lists) (h : List Items) → ShelfStands shelf.now h →
+        reply_in r ≡ runs ((cluster_of s).leads lists member) h (map call_of steps.now)) }
+{
+    if is_refused(member, steps) {
+        return Ok(Reply::Tells(Fact::Elsewhere));
+    }
+    Ok(Reply::Tells(run(alloc, shelf, steps)?))
+}
+
+// What stands at the place of a proposal.
+fn stamped(place: Place, stamp: Stamp) -> Fact
+    ensures { result ≡ found_at (placed_at place) stamp }
+{
+    if stamp.term != place.term {
+        Fact::Replaced {
+            place: place.place,
+            mine: place.term,
+            found: stamp.term,
+        }
+    } else if stamp.valid {
+        Fact::Placed { place: place.place }
+    } else {
+        Fact::Stale { place: place.place }
+    }
+}
+
+// Whether an entry that was proposed is applied.
+fn land(shelf: &Shelf, place: Place, now: u64, deadline: u64) -> Reply
+    ensures { (h : List Items) → ShelfStands shelf.now h →
+        reply_in result ≡ lands h now (placed_at place) (outcome_of (length h) place.place now deadline) }
+{
+    let at = shelf.at();
+    match outcome(at, place.place, now, deadline) {
+        Outcome::NotYet => Reply::Waits,
+        Outcome::Late => Reply::Tells(Fact::Unsure {
+            place: place.place,
+            at,
+            now,
+        }),
+        Outcome::Ready => match shelf.stamp(place.place) {
+            Some(stamp) => Reply::Tells(stamped(place, stamp)),
+            None => Reply::Waits,
+        },
+    }
+}
+
+// Whether a transaction is done.
+fn leave(shelf: &Shelf, writes: bool, placing: Option<Place>, now: u64, deadline: u64) -> Reply
+    ensures { (h : List Items) → ShelfStands shelf.now h →
+        reply_in result ≡ leaves h now deadline writes (placing_of placing) }
+{
+    if !writes {
+        return Reply::Tells(Fact::Done { at: shelf.at() });
+    }
+    match placing {
+        None => Reply::Proposes,
+        Some(place) => land(shelf, place, now, deadline),
+    }
+}
+
+/// What a member, numbered from 1, does with a question at a moment, where it waits until a deadline, and where its entry was proposed.
+pub(crate) fn answered(
+    alloc: Global,
+    setup: &Setup,
+    members: &Members,
+    member: u8,
+    ask: &Ask,
+    placing: Option<Place>,
+    now: u64,
+    deadline: u64,
+) -> Result<Reply, Memory>
+    requires there { (1 ≤ member) × (member ≤ length members.now.shelves.items) }
+    ensures exact { IfOk result (λ a. (r : ListRun) (c : Client) → AreMembers setup.now (members_in members.now) r.members →
+        IsAskedOf setup.now now member deadline placing r c →
+        reply_in a ≡ answers (cluster_of setup.now) r c (question_of ask.now)) }
+{
+    let shelf = members.shelf(member as usize - 1);
+    match ask {
+        Ask::Enter { need } => Ok(enter(shelf.at(), *need, now, deadline)),
+        Ask::Run { steps } => rows(alloc, shelf, member, steps),
+        Ask::Leave { .. } => Ok(leave(shelf, ask.writes(), placing, now, deadline)),
+        Ask::Route => Ok(Reply::Tells(Fact::Routed {
+            leader: leader(setup, member),
+        })),
+    }
+}

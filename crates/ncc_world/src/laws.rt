@@ -1,0 +1,66 @@
+//! What holds of every run.
+
+ghost use Rattle.ncc_world.specs.Headline.{EveryRunKeeps, ListKeepsFour, OneRun};
+ghost use Rattle.std.specs.Prelude.{◌≡◌, ℕ, ◌+◌, ◌-◌, ◌<◌, ◌≤◌, true, List, [], ◌∷◌, length, slice_get, Some, None};
+ghost use Rattle.ncc_tx.specs.declared.entry.Entry.{Entry};
+ghost use Rattle.ncc_tx.specs.declared.entry.Item.{Item};
+ghost use Rattle.ncc_bolt.specs.declared.message.Request.{Request};
+ghost use Rattle.ncc_session.specs.Question.{enter};
+ghost use Rattle.ncc_session.specs.declared.ask.Fact.TheVariants as fact;
+ghost use Rattle.ncc_clients.specs.Members.{elsewhere, full, placed, at_of};
+ghost use Rattle.ncc_clients.specs.Run.{Client, question_of, deadline_of, reply, waits, tells};
+ghost use Rattle.ncc_world.specs.declared.setup.Setup.{Setup};
+ghost use Rattle.ncc_world.specs.declared.event.Event.TheVariants as event;
+ghost use Rattle.ncc_world.specs.declared.error.WorldError.TheVariants as error;
+ghost use Rattle.ncc_world.specs.Setting.{IsSetup, Lists, cluster_of, nobody, list_at, appended, lagging};
+ghost use Rattle.ncc_world.specs.Happening.{ListRun, refusal, own, asks};
+
+/// Members over one list keep what their clients rest on.
+pub fn list_keeps_four()
+    ensures four { ListKeepsFour }
+{}
+
+/// Every run of events keeps the promise, and some events have one run.
+pub fn every_run_keeps()
+    ensures headline { EveryRunKeeps }
+    ensures one { OneRun }
+{}
+
+/// Worked cases of members over one list: the first entry stands at place 1 in term 1; a member that does not lead takes
+/// none, and a full log takes none; a member applies one entry of two, and not past the end.
+pub fn worked_members()
+    ensures first { (s : Setup) (entry : Entry) → IsSetup s
+        → (cluster_of s).propose (nobody s) 1 entry ≡ placed 1 1 (appended (nobody s) entry) }
+    ensures follower { (s : Setup) (lists : Lists) (entry : Entry) → (cluster_of s).propose lists 2 entry ≡ elsewhere }
+    ensures full { (s : Setup) (lists : Lists) (entry : Entry) → length (list_at lists 1) ≡ s.limit
+        → (cluster_of s).propose lists 1 entry ≡ full s.limit }
+    ensures one_of_two { (x y : Item) → lagging ((x ∷ y ∷ []) ∷ [] ∷ []) 2 1 ≡ (x ∷ y ∷ []) ∷ (x ∷ []) ∷ [] }
+    ensures to_the_end { (x y : Item) → lagging ((x ∷ y ∷ []) ∷ (x ∷ []) ∷ []) 2 7 ≡ (x ∷ y ∷ []) ∷ (x ∷ y ∷ []) ∷ [] }
+{}
+
+/// Worked cases of events: the clock may stand still and does not go back; the leader applies by no event, and member 0 is
+/// none; nobody sends bytes on the connection of a `put` or `get`; bytes do nothing on a connection that is closed.
+pub fn worked_events()
+    ensures stands { (r : ListRun) → refusal r (event.Time r.now) ≡ None }
+    ensures back { (r : ListRun) (to : ℕ) → to < r.now → refusal r (event.Time to) ≡ Some error.BackInTime }
+    ensures leader { (r : ListRun) (count : ℕ) → 1 ≤ length r.members → refusal r (event.Apply 1 count) ≡ Some error.WrongRole }
+    ensures nobody { (r : ListRun) (count : ℕ) → refusal r (event.Apply 0 count) ≡ Some error.NoMember }
+    ensures unnamed { (s : Setup) (r : ListRun) (member : ℕ) (request : Request) (bytes : List ℕ)
+        → refusal (asks s r member request) (event.Bytes (length r.clients + 1) bytes) ≡ Some error.NoConn }
+    ensures closed { (s : Setup) (r : ListRun) (conn : ℕ) (c : Client) (bytes : List ℕ) → slice_get r.clients (conn - 1) ≡ Some c
+        → c.closed ≡ true → own s (event.Bytes conn bytes) r ≡ r }
+{}
+
+/// Worked cases of a question to enter: it waits at its deadline, is late one millisecond past it, and is answered as soon
+/// as its place is reached.
+pub fn worked_waits()
+    ensures at_deadline { (s : Setup) (r : ListRun) (c : Client) (need : ℕ) → question_of (cluster_of s) c ≡ Some (enter need)
+        → at_of (cluster_of s) r.members c.member < need → r.now ≡ deadline_of (cluster_of s) c
+        → reply (cluster_of s) r c ≡ waits }
+    ensures past { (s : Setup) (r : ListRun) (c : Client) (need : ℕ) → question_of (cluster_of s) c ≡ Some (enter need)
+        → at_of (cluster_of s) r.members c.member < need → r.now ≡ deadline_of (cluster_of s) c + 1
+        → reply (cluster_of s) r c ≡ tells (fact.Late need (at_of (cluster_of s) r.members c.member) r.now) }
+    ensures reached { (s : Setup) (r : ListRun) (c : Client) (need : ℕ) → question_of (cluster_of s) c ≡ Some (enter need)
+        → need ≤ at_of (cluster_of s) r.members c.member
+        → reply (cluster_of s) r c ≡ tells (fact.Entered (at_of (cluster_of s) r.members c.member)) }
+{}

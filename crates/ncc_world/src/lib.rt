@@ -1,0 +1,27 @@
+//! A whole cluster with its clients, from its beginning through every event.
+#![tactic(auto)]
+
+mod answer;
+mod clients;
+mod config;
+mod error;
+mod event;
+mod laws;
+mod members;
+mod requests;
+mod running;
+mod seen;
+mod served;
+mod setup;
+mod taken;
+mod world;
+
+pub use error::{Which, WorldError};
+pub use event::{Bookmarks, Event};
+pub use laws::{every_run_keeps, list_keeps_four, worked_events, worked_members, worked_waits};
+pub use ncc_apply::{Shelf, Stamp};
+pub use ncc_clients::Told;
+pub use ncc_tx::Entries;
+pub use seen::{ConnList, ConnSeen, MemberList, MemberSeen, Shown, ToldList};
+pub use setup::{Kind, Setup};
+pub use world::World;

@@ -1,0 +1,410 @@
+//! The run of a world.
+
+ghost use Rattle.std.specs.Prelude.{◌≡◌, ◌≢◌, ◌+◌, ◌<◌, length, Some, None, true, slice_get, IfOk, OnOk, IsTrue};
+ghost use Rattle.ncc_session.specs.Talk.{asked, fits_at};
+ghost use Rattle.ncc_clients.specs.Run.{Client, reply, proposes, told_to, opened, moved};
+ghost use Rattle.ncc_clients.specs.Turn.{acts, Settles};
+ghost use Rattle.ncc_world.specs.Setting.{IsSetup, cluster_of, lagging};
+ghost use Rattle.ncc_world.specs.Events.{MayHappen};
+ghost use Rattle.ncc_world.specs.Happening.{ListRun, Happens, start_of, own, refusal, unless, asks, feeds, closes_one, is_member, is_open_made};
+ghost use Rattle.ncc_world.specs.World.{RunsAs};
+ghost use Rattle.ncc_world.specs.Parts.{HasRun, TurnBy, Offered, DoesTo, first_acting, lower, number_of, reply_in, run_in};
+ghost use Rattle.ncc_world.specs.declared.served.Served.{Served as Serveds};
+
+use crate::answer::{Reply, answered};
+use crate::clients::Clients;
+use crate::error::WorldError;
+use crate::event::Event;
+use crate::members::{Members, Proposal};
+use crate::requests::{client_bytes, get_request, put_request};
+use crate::seen::ToldList;
+use crate::served::{Change, question};
+use crate::setup::Setup;
+use ncc_bolt::Request;
+use ncc_clients::Told;
+use ncc_pack::{Bytes, Memory, Sequence};
+use ncc_session::{Ask, Fact};
+use ncc_wait::Outcome;
+use std::alloc::{AllocError, Global};
+
+/// What a world keeps of its run.
+#[derive(Drop)]
+pub(crate) struct Running {
+    pub(crate) clock: u64,
+    pub(crate) members: Members,
+    pub(crate) clients: Clients,
+    pub(crate) told: ToldList,
+}
+
+// The lower of two numbers.
+fn lower(number: Option<u64>, other: Option<(u64, Outcome)>) -> Option<u64>
+    ensures { result ≡ lower number (number_of other) }
+{
+    match (number, other) {
+        (Some(one), Some((two, _))) => { if two < one { Some(two) } else { Some(one) } }
+        (None, Some((two, _))) => Some(two),
+        (one, None) => one,
+    }
+}
+
+impl Running {
+    /// The beginning of a run.
+    pub(crate) fn new(alloc: Global, setup: &Setup) -> Result<Running, Memory>
+        requires allowed { IsSetup setup.now }
+        ensures begun { IfOk result (λ w. RunsAs setup.now (run_in w) (start_of setup.now)) }
+    {
+        let members = Members::new(alloc, setup)?;
+        let clients = Clients::new(alloc, setup.cores as usize + setup.replicas as usize)?;
+        Ok(Running {
+            clock: 0,
+            members,
+            clients,
+            told: Sequence::new(alloc),
+        })
+    }
+
+    // The number of the first connection whose question can be answered now.
+    fn first(&self, setup: &Setup) -> Option<u64>
+        requires live { HasRun setup.now self.now }
+        ensures first { (r : ListRun) → RunsAs setup.now (run_in self.now) r → result ≡ first_acting setup.now r }
+    {
+        let mut lowest: Option<u64> = None;
+        for (index, room) in self.clients.rooms.iter().enumerate() {
+            lowest = lower(lowest, room.first(self.members.at(index), self.clock));
+        }
+        lowest
+    }
+
+    // What its member does with the question of the connection at an index.
+    fn reply_at(&self, alloc: Global, setup: &Setup, index: usize) -> Result<Reply, Memory>
+        requires live { HasRun setup.now self.now }
+        requires there { index < length self.now.clients.table.items }
+        ensures exact { IfOk result (λ a. (r : ListRun) (c : Client) → RunsAs setup.now (run_in self.now) r → slice_get r.clients index ≡ Some c →
+            reply_in a ≡ reply (cluster_of setup.now) r c) }
+    {
+        let served = &self.clients.table[index];
+        let member = self.clients.shown(index).member;
+        match question(served) {
+            None => Ok(Reply::Waits),
+            Some(ask) => answered(
+                alloc,
+                setup,
+                &self.members,
+                member,
+                ask,
+                served.placing,
+                self.clock,
+                served.since.saturating_add(setup.wait),
+            ),
+        }
+    }
+
+    // Tells the connection at an index a fact that answers its question.
+    fn tell(&mut self, setup: &Setup, line: u64, index: usize, fact: Fact) -> Result<(), Memory>
+        requires live { HasRun setup.now self.old }
+        requires there { index < length self.old.clients.table.items }
+        requires fits { (v : Serveds) → slice_get self.old.clients.table.items index ≡ Some v → IsTrue (fits_at (asked v.conn) fact) }
+        ensures ok { OnOk result ((r : ListRun) (c : Client) → RunsAs setup.now (run_in self.old) r → slice_get r.clients index ≡ Some c →
+            RunsAs setup.now (run_in self.new) (told_to line r index c fact)) }
+    {
+        let conn = self.clients.shown(index).conn;
+        let told = Told {
+            line,
+            conn,
+            fact: fact.copy()?,
+        };
+        self.told.push(told)?;
+        self.clients
+            .change(setup.wait, index, Change::Told(fact), self.clock)
+    }
+
+    // Proposes the entry of the question of the connection at an index at its member.
+    fn offer(&mut self, setup: &Setup, index: usize) -> Result<Proposal, Memory>
+        requires live { HasRun setup.now self.old }
+        requires there { index < length self.old.clients.table.items }
+        requires asks { (r : ListRun) (c : Client) → RunsAs setup.now (run_in self.old) r → slice_get r.clients index ≡ Some c →
+            reply (cluster_of setup.now) r c ≡ proposes }
+        ensures ok { IfOk result (λ p. (r : ListRun) (c : Client) → RunsAs setup.now (run_in self.old) r → slice_get r.clients index ≡ Some c →
+            Offered setup.now r c p self.old self.new) }
+    {
+        let member = self.clients.shown(index).member;
+        let Some(ask) = question(&self.clients.table[index]) else {
+            return Ok(Proposal::Elsewhere);
+        };
+        match ask {
+            Ask::Leave { entry } => {
+                let proposal = self.members.propose(setup, member, entry)?;
+                Ok(proposal)
+            }
+            Ask::Enter { .. } => Ok(Proposal::Elsewhere),
+            Ask::Run { .. } => Ok(Proposal::Elsewhere),
+            Ask::Route => Ok(Proposal::Elsewhere),
+        }
+    }
+
+    // Proposes the entry of the question of the connection at an index. Where it is not accepted, the connection is told so.
+    fn propose(&mut self, setup: &Setup, line: u64, index: usize) -> Result<(), Memory>
+        requires live { HasRun setup.now self.old }
+        requires there { index < length self.old.clients.table.items }
+        requires asks { (r : ListRun) (c : Client) → RunsAs setup.now (run_in self.old) r → slice_get r.clients index ≡ Some c →
+            reply (cluster_of setup.now) r c ≡ proposes }
+        ensures ok { OnOk result ((r : ListRun) (c : Client) → RunsAs setup.now (run_in self.old) r → slice_get r.clients index ≡ Some c →
+            DoesTo setup.now line r index c proposes (run_in self.new)) }
+    {
+        match self.offer(setup, index)? {
+            Proposal::Elsewhere => self.tell(setup, line, index, Fact::Elsewhere)?,
+            Proposal::Full(entries) => self.tell(setup, line, index, Fact::Full { entries })?,
+            Proposal::Placed(place) => {
+                let now = self.clock;
+                self.clients
+                    .change(setup.wait, index, Change::Placed(place), now)?;
+            }
+        }
+        Ok(())
+    }
+
+    // Answers the question of the connection at an index, or proposes its entry.
+    fn answer(
+        &mut self,
+        alloc: Global,
+        setup: &Setup,
+        line: u64,
+        index: usize,
+    ) -> Result<(), Memory>
+        requires live { HasRun setup.now self.old }
+        requires there { index < length self.old.clients.table.items }
+        ensures ok { OnOk result ((r : ListRun) (c : Client) → RunsAs setup.now (run_in self.old) r → slice_get r.clients index ≡ Some c →
+            acts (cluster_of setup.now) r c ≡ true → DoesTo setup.now line r index c (reply (cluster_of setup.now) r c) (run_in self.new)) }
+    {
+        match self.reply_at(alloc, setup, index)? {
+            Reply::Waits => Ok(()),
+            Reply::Tells(fact) => self.tell(setup, line, index, fact),
+            Reply::Proposes => self.propose(setup, line, index),
+        }
+    }
+
+    // One turn: the first connection whose question can be answered is answered. False where there is none.
+    fn turn(&mut self, alloc: Global, setup: &Setup, line: u64) -> Result<bool, Memory>
+        requires live { HasRun setup.now self.old }
+        ensures ok { IfOk result (λ more. (r : ListRun) → RunsAs setup.now (run_in self.old) r → TurnBy setup.now line r (run_in self.new) more) }
+    {
+        let Some(number) = self.first(setup) else {
+            return Ok(false);
+        };
+        self.answer(alloc, setup, line, number as usize - 1)?;
+        Ok(true)
+    }
+
+    // Turn after turn, until nobody can be answered.
+    fn settle(&mut self, alloc: Global, setup: &Setup, line: u64) -> Result<(), Memory>
+        requires live { HasRun setup.now self.old }
+        ensures ok { OnOk result ((r : ListRun) → RunsAs setup.now (run_in self.old) r →
+            (t : ListRun) × Settles (cluster_of setup.now) line r t × RunsAs setup.now (run_in self.new) t) }
+    {
+        'turns: for _ in 0..u64::MAX {
+            if !self.turn(alloc, setup, line)? {
+                return Ok(());
+            }
+        }
+        Err(AllocError)
+    }
+}
+
+impl Running {
+    // There is such a member.
+    fn is_member(&self, setup: &Setup, member: u8) -> bool
+        ensures exact { (r : ListRun) → RunsAs setup.now (run_in self.now) r → result ≡ is_member r member }
+    {
+        let _setup = setup;
+        1 <= member && member as usize <= self.members.count()
+    }
+
+    // Some open made a connection of this number.
+    fn is_open_made(&self, setup: &Setup, conn: u64) -> bool
+        ensures exact { (r : ListRun) → RunsAs setup.now (run_in self.now) r → result ≡ is_open_made r conn }
+    {
+        let _setup = setup;
+        if conn == 0 || self.clients.seen.len() as u64 <= conn - 1 {
+            return false;
+        }
+        self.clients.seen.as_slice()[conn as usize - 1].printed
+    }
+
+    /// Why an event is refused, if it is.
+    pub(crate) fn refusal(&self, setup: &Setup, event: &Event) -> Option<WorldError>
+        ensures exact { (r : ListRun) → RunsAs setup.now (run_in self.now) r → result ≡ refusal r event.now }
+    {
+        match event {
+            Event::Time { to } => unless(self.clock <= *to, WorldError::BackInTime),
+            Event::Put { member, .. } => {
+                unless(self.is_member(setup, *member), WorldError::NoMember)
+            }
+            Event::Get { member, .. } => {
+                unless(self.is_member(setup, *member), WorldError::NoMember)
+            }
+            Event::Apply { member, .. } => {
+                if !self.is_member(setup, *member) {
+                    Some(WorldError::NoMember)
+                } else if *member == 1 {
+                    Some(WorldError::WrongRole)
+                } else {
+                    None
+                }
+            }
+            Event::Open { member } => unless(self.is_member(setup, *member), WorldError::NoMember),
+            Event::Bytes { conn, .. } => {
+                unless(self.is_open_made(setup, *conn), WorldError::NoConn)
+            }
+            Event::Close { conn } => unless(self.is_open_made(setup, *conn), WorldError::NoConn),
+        }
+    }
+
+    // Bytes come in at the connection at an index. Once it is closed they do nothing.
+    fn feed(&mut self, setup: &Setup, index: usize, piece: Bytes) -> Result<(), Memory>
+        requires live { HasRun setup.now self.old }
+        requires there { index < length self.old.clients.table.items }
+        ensures ok { OnOk result ((r : ListRun) → RunsAs setup.now (run_in self.old) r →
+            RunsAs setup.now (run_in self.new) (feeds setup.now r index piece)) }
+    {
+        if self.clients.table[index].closed {
+            return Ok(());
+        }
+        let now = self.clock;
+        self.clients
+            .change(setup.wait, index, Change::Fed(piece), now)?;
+        Ok(())
+    }
+
+    // The client closes the connection at an index.
+    fn close(&mut self, setup: &Setup, index: usize) -> Result<(), Memory>
+        requires live { HasRun setup.now self.old }
+        requires there { index < length self.old.clients.table.items }
+        ensures ok { OnOk result ((r : ListRun) → RunsAs setup.now (run_in self.old) r →
+            RunsAs setup.now (run_in self.new) (closes_one r index (slice_get r.clients index))) }
+    {
+        if self.clients.table[index].closed {
+            return Ok(());
+        }
+        let now = self.clock;
+        self.clients.change(setup.wait, index, Change::Closed, now)?;
+        Ok(())
+    }
+
+    // A client connects to a member.
+    fn open(
+        &mut self,
+        alloc: Global,
+        setup: &Setup,
+        member: u8,
+        printed: bool,
+    ) -> Result<(), Memory>
+        requires allowed { IsSetup setup.now }
+        requires live { HasRun setup.now self.old }
+        ensures ok { OnOk result ((r : ListRun) → RunsAs setup.now (run_in self.old) r → is_member r member ≡ true →
+            RunsAs setup.now (run_in self.new) (opened r member printed)) }
+        ensures more { OnOk result (length self.new.clients.table.items ≡ length self.old.clients.table.items + 1) }
+    {
+        let now = self.clock;
+        self.clients.open(alloc, setup, member, printed, now)
+    }
+
+    // A client connects to a member, and sends all that it has to say.
+    fn ask(
+        &mut self,
+        alloc: Global,
+        setup: &Setup,
+        member: u8,
+        request: &Request,
+    ) -> Result<(), Memory>
+        requires allowed { IsSetup setup.now }
+        requires live { HasRun setup.now self.old }
+        requires there { (r : ListRun) → RunsAs setup.now (run_in self.old) r → is_member r member ≡ true }
+        ensures ok { OnOk result ((r : ListRun) → RunsAs setup.now (run_in self.old) r →
+            RunsAs setup.now (run_in self.new) (asks setup.now r member request.now)) }
+    {
+        let bytes = client_bytes(alloc, request)?;
+        let index = self.clients.table.len();
+        self.open(alloc, setup, member, false)?;
+        self.feed(setup, index, bytes)
+    }
+
+    // A member that lags applies up to so many further entries.
+    fn apply(&mut self, setup: &Setup, member: u8, count: u64) -> Result<(), Memory>
+        requires live { HasRun setup.now self.old }
+        requires there { (r : ListRun) → RunsAs setup.now (run_in self.old) r → (is_member r member ≡ true) × (member ≢ 1) }
+        ensures ok { OnOk result ((r : ListRun) → RunsAs setup.now (run_in self.old) r →
+            RunsAs setup.now (run_in self.new) (moved (cluster_of setup.now) r (lagging r.members member count))) }
+    {
+        let _setup = setup;
+        self.members.apply(member, count)?;
+        Ok(())
+    }
+
+    // The own step of an event.
+    fn step(&mut self, alloc: Global, setup: &Setup, event: &Event) -> Result<(), Memory>
+        requires allowed { IsSetup setup.now }
+        requires live { HasRun setup.now self.old }
+        requires may_happen { MayHappen setup.now.cluster event.now }
+        requires taken { (r : ListRun) → RunsAs setup.now (run_in self.old) r → refusal r event.now ≡ None }
+        ensures ok { OnOk result ((r : ListRun) → RunsAs setup.now (run_in self.old) r →
+            RunsAs setup.now (run_in self.new) (own setup.now event.now r)) }
+    {
+        match event {
+            Event::Time { to } => {
+                self.clock = *to;
+                Ok(())
+            }
+            Event::Put {
+                member,
+                key,
+                value,
+                bookmarks,
+            } => {
+                let request = put_request(alloc, key, value, bookmarks)?;
+                self.ask(alloc, setup, *member, &request)
+            }
+            Event::Get {
+                member,
+                key,
+                bookmarks,
+            } => {
+                let request = get_request(alloc, key, bookmarks)?;
+                self.ask(alloc, setup, *member, &request)
+            }
+            Event::Apply { member, count } => self.apply(setup, *member, *count),
+            Event::Open { member } => self.open(alloc, setup, *member, true),
+            Event::Bytes { conn, bytes } => {
+                let piece = bytes.copy()?;
+                self.feed(setup, *conn as usize - 1, piece)
+            }
+            Event::Close { conn } => self.close(setup, *conn as usize - 1),
+        }
+    }
+
+    /// An event, of this line of the script, and all that comes of it.
+    pub(crate) fn happen(
+        &mut self,
+        alloc: Global,
+        setup: &Setup,
+        line: u64,
+        event: &Event,
+    ) -> Result<(), Memory>
+        requires allowed { IsSetup setup.now }
+        requires live { HasRun setup.now self.old }
+        requires may_happen { MayHappen setup.now.cluster event.now }
+        requires taken { (r : ListRun) → RunsAs setup.now (run_in self.old) r → refusal r event.now ≡ None }
+        ensures ok { OnOk result ((r : ListRun) → RunsAs setup.now (run_in self.old) r →
+            (t : ListRun) × Happens setup.now line event.now r t × RunsAs setup.now (run_in self.new) t) }
+    {
+        self.step(alloc, setup, event)?;
+        self.settle(alloc, setup, line)?;
+        Ok(())
+    }
+}
+
+// The error, unless this holds.
+fn unless(holds: bool, error: WorldError) -> Option<WorldError>
+    ensures { result ≡ unless holds error }
+{
+    if holds { None } else { Some(error) }
+}
