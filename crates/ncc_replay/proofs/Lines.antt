@@ -1,23 +1,42 @@
 -- What the words of a line say, and that they say one event at most.
-use Rattle.std.proofs.Common.{◌≡◌, ◌≢◌, ℕ, ◌<◌, ◌≤◌, ◌^◌, true, false, cond, ◌==◌, List, [], ◌∷◌, ◌++◌, length, drop, refl, sym, ap}
-use Rattle.std.proofs.Common.{◌∙◌, arith, codes, decimal, get_or}
-use Rattle.std.specs.List.{AllByRecursion, join_with_byte}
+use Rattle.std.proofs.Common.{◌≡◌, ◌≢◌, ℕ, ◌+◌, ◌<◌, ◌≤◌, ◌^◌, true, false, cond, ◌==◌, not, ◌&&◌, nat_le, nat_lt, List, [], ◌∷◌, ◌++◌}
+use Rattle.std.proofs.Common.{length, drop}
+use Rattle.std.proofs.Common.{take, refl, sym, ap, ◌∙◌, subst, arith, codes, decimal, get_or, All, inl, inr}
+use Rattle.std.specs.List.{AllByRecursion, join_with_byte, list_all, before_first}
+use Rattle.std.specs.List.{position_or_len}
+use Rattle.std.proofs.lemmas.Bool.{and_parts, cases_lt}
+use Rattle.std.proofs.lemmas.List.{take_all}
+use Rattle.std.proofs.lemmas.List.Splits.{slice_split_first, slice_split_none}
 use Rattle.std.proofs.lemmas.Fmt.{decimal_injective}
-use Rattle.std.proofs.lemmas.List.Elements.{All-from_recursion, All-head, All-tail}
+use Rattle.std.proofs.lemmas.List.Elements.{All-from_recursion, All-head, All-nil, All-tail}
 use Rattle.ncc_bookmark.specs.Point.{Point, Fits}
 use Rattle.ncc_bookmark.specs.Spelling.{text_of}
 use Rattle.ncc_bookmark.proofs.Texts.{point_of_text}
-use Rattle.ncc_replay.specs.Line.{AreOf, bookmark_words, Spellable, words_of, Says, IsSetup, setup_words, SaysCluster, is_word}
-use Rattle.ncc_replay.specs.Line.{first_word, is_verb}
-use Rattle.ncc_replay.specs.Reading.{words_between, AreWords, IsBookmark, AreSetup, verb_word}
+use Rattle.ncc_replay.specs.Line.{bookmark_words, is_bookmark_word, hex, MayPresent, Spellable, words_of, Says, setup_words, SaysCluster}
+use Rattle.ncc_replay.specs.Line.{SaysNone, IsRightBut, IsCause, first_word, is_verb}
+use Rattle.ncc_replay.specs.Reading.{words_between, AreWords, AreRightBut, AreBad, IsBookmark, AreBookmarks, AreNoBookmarks, AreSetup}
+use Rattle.ncc_replay.specs.Reading.{verb_word}
+use Rattle.std.proofs.Common.{Bool, Option, None, Some, Result, Ok, Err, IfNone, IsErrOf}
+use Rattle.std.specs.Option.{ok_or}
+use Rattle.ncc_replay.specs.declared.line.LineError.{LineError}
+use Rattle.ncc_replay.specs.Script.{IsNoCluster}
+use Rattle.ncc_replay.specs.declared.line.LineError.TheVariants as LineErrors
+use Rattle.ncc_replay.specs.Reading.{IsWordsCause, IsBookmarksCause}
 use Rattle.ncc_replay.proofs.Words.{NoSpace, words-join, join-words, decimal_no_space, word_no_space, text_no_space}
-use Rattle.ncc_replay.specs.declared.event.Event.{Event}
-use Rattle.ncc_replay.specs.declared.event.Event.TheVariants.{Time, Put, Get, Apply}
-use Rattle.ncc_replay.specs.declared.event.Setup.{Setup}
+use Rattle.ncc_replay.proofs.Words.{bookmark_word_no_space, no_space_before}
+use Rattle.ncc_replay.proofs.Words.{text_is_word}
+use Rattle.ncc_replay.proofs.Digits.{hex_no_space, hex_injective}
 use Rattle.ncc_replay.specs.declared.line.Verb.{Verb}
 use Rattle.ncc_replay.specs.declared.line.Verb.TheVariants as Verbs
-use Rattle.ncc_replay.specs.declared.status.Cause.TheVariants.{BadLine, UnknownVerb}
-use Rattle.ncc_replay.specs.Script.{cause_of}
+use Rattle.ncc_replay.specs.declared.status.Cause.{Cause}
+use Rattle.ncc_replay.specs.declared.status.Cause.TheVariants as c
+use Rattle.ncc_replay.specs.declared.status.Cause.TheVariants.{BadLine, BadBookmark, UnknownVerb}
+use Rattle.ncc_world.specs.Events.{is_word, AreOf}
+use Rattle.ncc_world.specs.Setting.{IsSetup}
+use Rattle.ncc_world.specs.declared.event.Event.{Event}
+use Rattle.ncc_world.specs.declared.event.Event.TheVariants.{Time, Put, Get, Apply, Open, Bytes, Close}
+use Rattle.ncc_world.specs.declared.setup.Setup.{Setup}
+use Rattle.ncc_world.specs.declared.setup.Kind.{Kind}
 
 -- a word that is written out
 literal : (w : List ℕ) → AllByRecursion (λ b. (b == 32) ≡ false) w → NoSpace w
@@ -48,12 +67,27 @@ words_no_space cluster (Apply member count) h = (
   literal (codes "apply") (refl, (refl, (refl, (refl, (refl, tt))))),
   (decimal_no_space member (omega (arith, h.0)), (decimal_no_space count h.2, tt)),
 )
+words_no_space cluster (Open member) h = (
+  literal (codes "open") (refl, (refl, (refl, (refl, tt)))),
+  (decimal_no_space member (omega (arith, h)), tt),
+)
+words_no_space cluster (Bytes conn bytes) h = (
+  literal (codes "bytes") (refl, (refl, (refl, (refl, (refl, tt))))),
+  (decimal_no_space conn h.0, (hex_no_space bytes, tt)),
+)
+words_no_space cluster (Close conn) h = (
+  literal (codes "close") (refl, (refl, (refl, (refl, (refl, tt))))),
+  (decimal_no_space conn h, tt),
+)
 
 words_nonempty : (e : Event) → 0 < length (words_of e)
 words_nonempty (Time to) = omega arith
 words_nonempty (Put member key value bs) = omega arith
 words_nonempty (Get member key bs) = omega arith
 words_nonempty (Apply member count) = omega arith
+words_nonempty (Open member) = omega arith
+words_nonempty (Bytes conn bytes) = omega arith
+words_nonempty (Close conn) = omega arith
 
 -- between a line and its words
 
@@ -72,17 +106,27 @@ setup_no_space s h = (
       decimal_no_space s.cores (omega (arith, h.cores)),
       (
         decimal_no_space s.replicas (omega (arith, h.replicas)),
-        (decimal_no_space s.cluster h.cluster, (decimal_no_space s.wait (omega (arith, h.wait)), tt)),
+        (decimal_no_space s.cluster h.id, (decimal_no_space s.wait (omega (arith, h.wait)), tt)),
       ),
     ),
   ),
 )
 
 pub words_say_cluster : (line : List ℕ) (s : Setup) → AreSetup (words_between line) s → SaysCluster line s
-words_say_cluster line s h = (h.0, join-words line ∙ ap (join_with_byte 32) h.1)
+words_say_cluster line s h = record {
+  allowed = h.allowed;
+  kind = h.kind;
+  limit = h.limit;
+  words = join-words line ∙ ap (join_with_byte 32) h.words_are;
+}
 
 pub says_words_cluster : (line : List ℕ) (s : Setup) → SaysCluster line s → AreSetup (words_between line) s
-says_words_cluster line s h = (h.0, ap words_between h.1 ∙ words-join (setup_words s) (setup_no_space s h.0) (omega arith))
+says_words_cluster line s h = record {
+  allowed = h.allowed;
+  kind = h.kind;
+  limit = h.limit;
+  words_are = ap words_between h.words ∙ words-join (setup_words s) (setup_no_space s h.allowed) (omega arith);
+}
 
 -- one event at most
 
@@ -102,9 +146,9 @@ abbrev pub first_word_of : List (List ℕ) → List ℕ
 first_word_of [] = []
 first_word_of (w ∷ ws) = w
 
--- the letter that a list of words begins with: each verb has one of its own
+-- two letters of the first word, added: each verb has a sum of its own
 abbrev first_byte : List (List ℕ) → ℕ
-first_byte words = get_or (first_word_of words) 0 0
+first_byte words = get_or (first_word_of words) 0 0 + get_or (first_word_of words) 2 0
 
 words_one : (cluster : ℕ) (a b : Event) → Spellable cluster a → Spellable cluster b → words_of a ≡ words_of b → a ≡ b
 words_one cluster (Time s) (Time t) f g e =
@@ -122,41 +166,93 @@ words_one cluster (Apply m i) (Apply n j) f g e =
     let members : m ≡ n = decimal_injective m n (omega (arith, f.0)) (omega (arith, g.0)) (cc) in
     let counts : i ≡ j = decimal_injective i j f.2 g.2 (cc) in
     cc
+words_one cluster (Open m) (Open n) f g e =
+    let texts : decimal m ≡ decimal n = cc in
+    ap Open (decimal_injective m n (omega (arith, f)) (omega (arith, g)) texts)
+words_one cluster (Bytes x bs) (Bytes y cs) f g e =
+    let conns : x ≡ y = decimal_injective x y f.0 g.0 (cc) in
+    let bytes : bs ≡ cs = hex_injective bs cs f.3 g.3 (cc) in
+    cc
+words_one cluster (Close x) (Close y) f g e =
+    let texts : decimal x ≡ decimal y = cc in
+    ap Close (decimal_injective x y f g texts)
 words_one cluster (Time s) (Put n l w qs) f g e = absurd (omega (arith, ap first_byte e))
 words_one cluster (Time s) (Get n l qs) f g e = absurd (omega (arith, ap first_byte e))
 words_one cluster (Time s) (Apply n j) f g e = absurd (omega (arith, ap first_byte e))
+words_one cluster (Time s) (Open n) f g e = absurd (omega (arith, ap first_byte e))
+words_one cluster (Time s) (Bytes y cs) f g e = absurd (omega (arith, ap first_byte e))
+words_one cluster (Time s) (Close y) f g e = absurd (omega (arith, ap first_byte e))
 words_one cluster (Put m k v ps) (Time t) f g e = absurd (omega (arith, ap first_byte e))
 words_one cluster (Put m k v ps) (Get n l qs) f g e = absurd (omega (arith, ap first_byte e))
 words_one cluster (Put m k v ps) (Apply n j) f g e = absurd (omega (arith, ap first_byte e))
+words_one cluster (Put m k v ps) (Open n) f g e = absurd (omega (arith, ap first_byte e))
+words_one cluster (Put m k v ps) (Bytes y cs) f g e = absurd (omega (arith, ap first_byte e))
+words_one cluster (Put m k v ps) (Close y) f g e = absurd (omega (arith, ap first_byte e))
 words_one cluster (Get m k ps) (Time t) f g e = absurd (omega (arith, ap first_byte e))
 words_one cluster (Get m k ps) (Put n l w qs) f g e = absurd (omega (arith, ap first_byte e))
 words_one cluster (Get m k ps) (Apply n j) f g e = absurd (omega (arith, ap first_byte e))
+words_one cluster (Get m k ps) (Open n) f g e = absurd (omega (arith, ap first_byte e))
+words_one cluster (Get m k ps) (Bytes y cs) f g e = absurd (omega (arith, ap first_byte e))
+words_one cluster (Get m k ps) (Close y) f g e = absurd (omega (arith, ap first_byte e))
 words_one cluster (Apply m i) (Time t) f g e = absurd (omega (arith, ap first_byte e))
 words_one cluster (Apply m i) (Put n l w qs) f g e = absurd (omega (arith, ap first_byte e))
 words_one cluster (Apply m i) (Get n l qs) f g e = absurd (omega (arith, ap first_byte e))
+words_one cluster (Apply m i) (Open n) f g e = absurd (omega (arith, ap first_byte e))
+words_one cluster (Apply m i) (Bytes y cs) f g e = absurd (omega (arith, ap first_byte e))
+words_one cluster (Apply m i) (Close y) f g e = absurd (omega (arith, ap first_byte e))
+words_one cluster (Open m) (Time t) f g e = absurd (omega (arith, ap first_byte e))
+words_one cluster (Open m) (Put n l w qs) f g e = absurd (omega (arith, ap first_byte e))
+words_one cluster (Open m) (Get n l qs) f g e = absurd (omega (arith, ap first_byte e))
+words_one cluster (Open m) (Apply n j) f g e = absurd (omega (arith, ap first_byte e))
+words_one cluster (Open m) (Bytes y cs) f g e = absurd (omega (arith, ap first_byte e))
+words_one cluster (Open m) (Close y) f g e = absurd (omega (arith, ap first_byte e))
+words_one cluster (Bytes x bs) (Time t) f g e = absurd (omega (arith, ap first_byte e))
+words_one cluster (Bytes x bs) (Put n l w qs) f g e = absurd (omega (arith, ap first_byte e))
+words_one cluster (Bytes x bs) (Get n l qs) f g e = absurd (omega (arith, ap first_byte e))
+words_one cluster (Bytes x bs) (Apply n j) f g e = absurd (omega (arith, ap first_byte e))
+words_one cluster (Bytes x bs) (Open n) f g e = absurd (omega (arith, ap first_byte e))
+words_one cluster (Bytes x bs) (Close y) f g e = absurd (omega (arith, ap first_byte e))
+words_one cluster (Close x) (Time t) f g e = absurd (omega (arith, ap first_byte e))
+words_one cluster (Close x) (Put n l w qs) f g e = absurd (omega (arith, ap first_byte e))
+words_one cluster (Close x) (Get n l qs) f g e = absurd (omega (arith, ap first_byte e))
+words_one cluster (Close x) (Apply n j) f g e = absurd (omega (arith, ap first_byte e))
+words_one cluster (Close x) (Open n) f g e = absurd (omega (arith, ap first_byte e))
+words_one cluster (Close x) (Bytes y cs) f g e = absurd (omega (arith, ap first_byte e))
 
 -- a line says one event at most
 pub says_one : (cluster : ℕ) (line : List ℕ) (a b : Event) → Says cluster line a → Says cluster line b → a ≡ b
 says_one cluster line a b f g =
     words_one cluster a b f.0 g.0 (sym (says_words cluster line a f).1 ∙ (says_words cluster line b g).1)
 
-setup_one : (a b : Setup) → IsSetup a → IsSetup b → setup_words a ≡ setup_words b → a ≡ b
-setup_one a b f g e =
-    let cores : a.cores ≡ b.cores = decimal_injective a.cores b.cores (omega (arith, f.cores)) (omega (arith, g.cores)) (cc) in
-    let replicas : a.replicas ≡ b.replicas = decimal_injective a.replicas b.replicas (omega (arith, f.replicas)) (omega (
+setup_one : (words : List (List ℕ)) (a b : Setup) → AreSetup words a → AreSetup words b → a ≡ b
+setup_one words a b f g =
+    let e : setup_words a ≡ setup_words b = sym f.words_are ∙ g.words_are in
+    let kinds : a.kind ≡ b.kind = f.kind ∙ sym g.kind in
+    let limits : a.limit ≡ b.limit = f.limit ∙ sym g.limit in
+    let cores : a.cores ≡ b.cores = decimal_injective a.cores b.cores (omega (arith, f.allowed.cores)) (omega (
       arith,
-      g.replicas,
+      g.allowed.cores,
     )) (cc) in
-    let clusters : a.cluster ≡ b.cluster = decimal_injective a.cluster b.cluster f.cluster g.cluster (cc) in
-    let waits : a.wait ≡ b.wait = decimal_injective a.wait b.wait (omega (arith, f.wait)) (omega (arith, g.wait)) (cc) in
-    let made : ℕ → ℕ → ℕ → ℕ → Setup = λ c r i w. record { cores = c; replicas = r; cluster = i; wait = w } in
-    let same : made a.cores a.replicas a.cluster a.wait ≡ made b.cores b.replicas b.cluster b.wait = cc in
+    let replicas : a.replicas ≡ b.replicas = decimal_injective a.replicas b.replicas (omega (arith, f.allowed.replicas)) (omega (
+      arith,
+      g.allowed.replicas,
+    )) (cc) in
+    let clusters : a.cluster ≡ b.cluster = decimal_injective a.cluster b.cluster f.allowed.id g.allowed.id (cc) in
+    let waits : a.wait ≡ b.wait = decimal_injective a.wait b.wait (omega (arith, f.allowed.wait)) (omega (arith, g.allowed.wait)) (cc) in
+    let made : Kind → ℕ → ℕ → ℕ → ℕ → ℕ → Setup = λ k c r i w l. record {
+      kind = k;
+      cores = c;
+      replicas = r;
+      cluster = i;
+      wait = w;
+      limit = l;
+    } in
+    let same : made a.kind a.cores a.replicas a.cluster a.wait a.limit ≡ made b.kind b.cores b.replicas b.cluster b.wait b.limit = cc in
     same
 
 -- and one cluster at most
 pub says_one_cluster : (line : List ℕ) (a b : Setup) → SaysCluster line a → SaysCluster line b → a ≡ b
-says_one_cluster line a b f g =
-    setup_one a b f.0 g.0 (sym (says_words_cluster line a f).1 ∙ (says_words_cluster line b g).1)
+says_one_cluster line a b f g = setup_one (words_between line) a b (says_words_cluster line a f) (says_words_cluster line b g)
 
 -- why a line says nothing
 
@@ -171,50 +267,297 @@ bad_bookmark cluster (p ∷ ps) [] w ws none f e = cc
 bad_bookmark cluster (p ∷ ps) (q ∷ qs) w ws none f e =
     bad_bookmark cluster ps qs w ws none (All-tail (λ b. Fits b × (b.cluster ≡ cluster)) q qs f) (cc)
 
--- a line that begins with `time` can say nothing but a `time`, and so for each verb
-pub time_bad : (words : List (List ℕ)) → ((to : ℕ) → to < 2 ^ 64 → words ≢ decimal to ∷ []) → (cluster : ℕ) (e : Event) →
-    ¬ (AreWords cluster (codes "time" ∷ words) e)
-time_bad words none cluster (Time to) h = none to h.0 (ap (drop 1) h.1)
-time_bad words none cluster (Put member key value bs) h = omega (arith, ap first_byte h.1)
-time_bad words none cluster (Get member key bs) h = omega (arith, ap first_byte h.1)
-time_bad words none cluster (Apply member count) h = omega (arith, ap first_byte h.1)
+-- a line that begins with `time` can say nothing but a `time`, and so for each verb; and no bookmarks can stand behind it
 
-pub put_bad : (cluster : ℕ) (words : List (List ℕ)) → ((member : ℕ) (key value : List ℕ) (bs : List Point) → member < 2 ^ 8 →
-    is_word key ≡ true → is_word value ≡ true → AreOf cluster bs → words ≢ decimal member ∷ key ∷ value ∷ bookmark_words bs) →
-    (e : Event) → ¬ (AreWords cluster (codes "put" ∷ words) e)
-put_bad cluster words none (Put member key value bs) h = none member key value bs h.0.0 h.0.1 h.0.2 h.0.3 (ap (drop 1) h.1)
-put_bad cluster words none (Time to) h = omega (arith, ap first_byte h.1)
-put_bad cluster words none (Get member key bs) h = omega (arith, ap first_byte h.1)
-put_bad cluster words none (Apply member count) h = omega (arith, ap first_byte h.1)
+not_right : (words : List (List ℕ)) → first_byte words ≢ 228 → first_byte words ≢ 219 → AreRightBut words → ⊥
+not_right words put get r = go r.event r.words_are r.presents where
+  go : (e : Event) → words ≡ words_of e ++ r.more → MayPresent e → ⊥
+  go (Put member key value bs) w h = put (ap first_byte w)
+  go (Get member key bs) w h = get (ap first_byte w)
+  go (Time to) w h = h
+  go (Apply member count) w h = h
+  go (Open member) w h = h
+  go (Bytes conn bytes) w h = h
+  go (Close conn) w h = h
 
-pub get_bad : (cluster : ℕ) (words : List (List ℕ)) → ((member : ℕ) (key : List ℕ) (bs : List Point) → member < 2 ^ 8 →
-    is_word key ≡ true → AreOf cluster bs → words ≢ decimal member ∷ key ∷ bookmark_words bs) → (e : Event) →
-    ¬ (AreWords cluster (codes "get" ∷ words) e)
-get_bad cluster words none (Get member key bs) h = none member key bs h.0.0 h.0.1 h.0.2 (ap (drop 1) h.1)
-get_bad cluster words none (Time to) h = omega (arith, ap first_byte h.1)
-get_bad cluster words none (Put member key value bs) h = omega (arith, ap first_byte h.1)
-get_bad cluster words none (Apply member count) h = omega (arith, ap first_byte h.1)
+time_none : (cluster : ℕ) (words : List (List ℕ)) → ((to : ℕ) → to < 2 ^ 64 → words ≢ decimal to ∷ []) → (e : Event) → AreWords cluster
+    (codes "time" ∷ words) e → ⊥
+time_none cluster words none (Time to) h = none to h.0 (ap (drop 1) h.1)
+time_none cluster words none (Put member key value bs) h = omega (arith, ap first_byte h.1)
+time_none cluster words none (Get member key bs) h = omega (arith, ap first_byte h.1)
+time_none cluster words none (Apply member count) h = omega (arith, ap first_byte h.1)
+time_none cluster words none (Open member) h = omega (arith, ap first_byte h.1)
+time_none cluster words none (Bytes conn bytes) h = omega (arith, ap first_byte h.1)
+time_none cluster words none (Close conn) h = omega (arith, ap first_byte h.1)
+
+pub time_bad : (words : List (List ℕ)) → ((to : ℕ) → to < 2 ^ 64 → words ≢ decimal to ∷ []) → (cluster : ℕ) → AreBad cluster
+    (codes "time" ∷ words) BadLine
+time_bad words none cluster = record {
+  none = time_none cluster words none;
+  cause_is = not_right (codes "time" ∷ words) (λ e. omega (arith, e)) (λ e. omega (arith, e));
+}
+
+apply_none : (cluster : ℕ) (words : List (List ℕ)) → ((member count : ℕ) → member < 2 ^ 8 → 1 ≤ count → count < 2 ^ 64 →
+    words ≢ decimal member ∷ decimal count ∷ []) → (e : Event) → AreWords cluster (codes "apply" ∷ words) e → ⊥
+apply_none cluster words none (Time to) h = omega (arith, ap first_byte h.1)
+apply_none cluster words none (Put member key value bs) h = omega (arith, ap first_byte h.1)
+apply_none cluster words none (Get member key bs) h = omega (arith, ap first_byte h.1)
+apply_none cluster words none (Apply member count) h = none member count h.0.0 h.0.1 h.0.2 (ap (drop 1) h.1)
+apply_none cluster words none (Open member) h = omega (arith, ap first_byte h.1)
+apply_none cluster words none (Bytes conn bytes) h = omega (arith, ap first_byte h.1)
+apply_none cluster words none (Close conn) h = omega (arith, ap first_byte h.1)
 
 pub apply_bad : (words : List (List ℕ)) → ((member count : ℕ) → member < 2 ^ 8 → 1 ≤ count → count < 2 ^ 64 →
-    words ≢ decimal member ∷ decimal count ∷ []) → (cluster : ℕ) (e : Event) → ¬ (AreWords cluster (codes "apply" ∷ words) e)
-apply_bad words none cluster (Apply member count) h = none member count h.0.0 h.0.1 h.0.2 (ap (drop 1) h.1)
-apply_bad words none cluster (Time to) h = omega (arith, ap first_byte h.1)
-apply_bad words none cluster (Put member key value bs) h = omega (arith, ap first_byte h.1)
-apply_bad words none cluster (Get member key bs) h = omega (arith, ap first_byte h.1)
+    words ≢ decimal member ∷ decimal count ∷ []) → (cluster : ℕ) → AreBad cluster (codes "apply" ∷ words) BadLine
+apply_bad words none cluster = record {
+  none = apply_none cluster words none;
+  cause_is = not_right (codes "apply" ∷ words) (λ e. omega (arith, e)) (λ e. omega (arith, e));
+}
 
-pub cluster_bad : (words : List (List ℕ)) (cluster : ℕ) (e : Event) → ¬ (AreWords cluster (codes "cluster" ∷ words) e)
-cluster_bad words cluster (Time to) h = omega (arith, ap first_byte h.1)
-cluster_bad words cluster (Put member key value bs) h = omega (arith, ap first_byte h.1)
-cluster_bad words cluster (Get member key bs) h = omega (arith, ap first_byte h.1)
-cluster_bad words cluster (Apply member count) h = omega (arith, ap first_byte h.1)
+open_none : (cluster : ℕ) (words : List (List ℕ)) → ((member : ℕ) → member < 2 ^ 8 → words ≢ decimal member ∷ []) → (e : Event) →
+    AreWords cluster (codes "open" ∷ words) e → ⊥
+open_none cluster words none (Time to) h = omega (arith, ap first_byte h.1)
+open_none cluster words none (Put member key value bs) h = omega (arith, ap first_byte h.1)
+open_none cluster words none (Get member key bs) h = omega (arith, ap first_byte h.1)
+open_none cluster words none (Apply member count) h = omega (arith, ap first_byte h.1)
+open_none cluster words none (Open member) h = none member h.0 (ap (drop 1) h.1)
+open_none cluster words none (Bytes conn bytes) h = omega (arith, ap first_byte h.1)
+open_none cluster words none (Close conn) h = omega (arith, ap first_byte h.1)
+
+pub open_bad : (words : List (List ℕ)) → ((member : ℕ) → member < 2 ^ 8 → words ≢ decimal member ∷ []) → (cluster : ℕ) → AreBad cluster
+    (codes "open" ∷ words) BadLine
+open_bad words none cluster = record {
+  none = open_none cluster words none;
+  cause_is = not_right (codes "open" ∷ words) (λ e. omega (arith, e)) (λ e. omega (arith, e));
+}
+
+close_none : (cluster : ℕ) (words : List (List ℕ)) → ((conn : ℕ) → conn < 2 ^ 64 → words ≢ decimal conn ∷ []) → (e : Event) →
+    AreWords cluster (codes "close" ∷ words) e → ⊥
+close_none cluster words none (Time to) h = omega (arith, ap first_byte h.1)
+close_none cluster words none (Put member key value bs) h = omega (arith, ap first_byte h.1)
+close_none cluster words none (Get member key bs) h = omega (arith, ap first_byte h.1)
+close_none cluster words none (Apply member count) h = omega (arith, ap first_byte h.1)
+close_none cluster words none (Open member) h = omega (arith, ap first_byte h.1)
+close_none cluster words none (Bytes conn bytes) h = omega (arith, ap first_byte h.1)
+close_none cluster words none (Close conn) h = none conn h.0 (ap (drop 1) h.1)
+
+pub close_bad : (words : List (List ℕ)) → ((conn : ℕ) → conn < 2 ^ 64 → words ≢ decimal conn ∷ []) → (cluster : ℕ) → AreBad cluster
+    (codes "close" ∷ words) BadLine
+close_bad words none cluster = record {
+  none = close_none cluster words none;
+  cause_is = not_right (codes "close" ∷ words) (λ e. omega (arith, e)) (λ e. omega (arith, e));
+}
+
+bytes_none : (cluster : ℕ) (words : List (List ℕ)) → ((conn : ℕ) (bytes : List ℕ) → conn < 2 ^ 64 → 1 ≤ length bytes →
+    length bytes ≤ 1_048_576 → All (λ b. b < 2 ^ 8) bytes → words ≢ decimal conn ∷ hex bytes ∷ []) → (e : Event) → AreWords cluster
+    (codes "bytes" ∷ words) e → ⊥
+bytes_none cluster words none (Time to) h = omega (arith, ap first_byte h.1)
+bytes_none cluster words none (Put member key value bs) h = omega (arith, ap first_byte h.1)
+bytes_none cluster words none (Get member key bs) h = omega (arith, ap first_byte h.1)
+bytes_none cluster words none (Apply member count) h = omega (arith, ap first_byte h.1)
+bytes_none cluster words none (Open member) h = omega (arith, ap first_byte h.1)
+bytes_none cluster words none (Bytes conn bytes) h = none conn bytes h.0.0 h.0.1 h.0.2 h.0.3 (ap (drop 1) h.1)
+bytes_none cluster words none (Close conn) h = omega (arith, ap first_byte h.1)
+
+pub bytes_bad : (words : List (List ℕ)) → ((conn : ℕ) (bytes : List ℕ) → conn < 2 ^ 64 → 1 ≤ length bytes → length bytes ≤ 1_048_576 →
+    All (λ b. b < 2 ^ 8) bytes → words ≢ decimal conn ∷ hex bytes ∷ []) → (cluster : ℕ) → AreBad cluster (codes "bytes" ∷ words) BadLine
+bytes_bad words none cluster = record {
+  none = bytes_none cluster words none;
+  cause_is = not_right (codes "bytes" ∷ words) (λ e. omega (arith, e)) (λ e. omega (arith, e));
+}
+
+put_none : (cluster : ℕ) (words : List (List ℕ)) → ((member : ℕ) (key value : List ℕ) (bs : List Point) → member < 2 ^ 8 →
+    is_word key ≡ true → is_word value ≡ true → AreOf cluster bs → words ≢ decimal member ∷ key ∷ value ∷ bookmark_words bs)
+    → (e : Event) → AreWords cluster (codes "put" ∷ words) e → ⊥
+put_none cluster words none (Time to) h = omega (arith, ap first_byte h.1)
+put_none cluster words none (Put member key value bs) h = none member key value bs h.0.0 h.0.1 h.0.2 h.0.3 (ap (drop 1) h.1)
+put_none cluster words none (Get member key bs) h = omega (arith, ap first_byte h.1)
+put_none cluster words none (Apply member count) h = omega (arith, ap first_byte h.1)
+put_none cluster words none (Open member) h = omega (arith, ap first_byte h.1)
+put_none cluster words none (Bytes conn bytes) h = omega (arith, ap first_byte h.1)
+put_none cluster words none (Close conn) h = omega (arith, ap first_byte h.1)
+
+-- the words of a `put` and others behind it
+record IsPutBut (words : List (List ℕ)) : Type 0 where
+  member : ℕ
+  key : List ℕ
+  value : List ℕ
+  more : List (List ℕ)
+  member_fits : member < 2 ^ 8
+  key_is : is_word key ≡ true
+  value_is : is_word value ≡ true
+  are_words : list_all is_bookmark_word more ≡ true
+  words_are : words ≡ decimal member ∷ key ∷ value ∷ more
+
+put_right : (words : List (List ℕ)) → AreRightBut (codes "put" ∷ words) → IsPutBut words
+put_right words r = go r.event r.words_are r.presents r.spellable where
+  go : (e : Event) → codes "put" ∷ words ≡ words_of e ++ r.more → MayPresent e → Spellable 0 e → IsPutBut words
+  go (Time to) w h s = absurd h
+  go (Put member key value bs) w h s = record {
+    member = member;
+    key = key;
+    value = value;
+    more = r.more;
+    member_fits = s.0;
+    key_is = s.1;
+    value_is = s.2;
+    are_words = r.are_words;
+    words_are = ap (drop 1) w ∙ ap (λ l. (decimal member ∷ key ∷ value ∷ bookmark_words l) ++ r.more) h;
+  }
+  go (Get member key bs) w h s = absurd (omega (arith, ap first_byte w))
+  go (Apply member count) w h s = absurd h
+  go (Open member) w h s = absurd h
+  go (Bytes conn bytes) w h s = absurd h
+  go (Close conn) w h s = absurd h
+
+-- what stands in front of the bookmarks has another form
+pub put_bad : (cluster : ℕ) (words : List (List ℕ)) → ((member : ℕ) (key value : List ℕ) (more : List (List ℕ)) → member < 2 ^ 8 →
+    is_word key ≡ true → is_word value ≡ true → words ≢ decimal member ∷ key ∷ value ∷ more)
+    → AreBad cluster (codes "put" ∷ words) BadLine
+put_bad cluster words none = record {
+  none = put_none cluster words (λ member key value bs f k v of. none member key value (bookmark_words bs) f k v);
+  cause_is = λ right. let r = put_right words right in none r.member r.key r.value r.more r.member_fits r.key_is r.value_is r.words_are;
+}
+
+-- the bookmarks are none
+pub put_no_bookmarks : (cluster : ℕ) (words : List (List ℕ)) (member : ℕ) (key value : List ℕ) (more : List (List ℕ)) (cause : Cause) →
+    member < 2 ^ 8 → is_word key ≡ true → is_word value ≡ true → words ≡ decimal member ∷ key ∷ value ∷ more
+    → AreNoBookmarks cluster more cause → AreBad cluster (codes "put" ∷ words) cause
+put_no_bookmarks cluster words member key value more cause f k v w b = record {
+  none = put_none cluster words (λ m x y bs g h i of e. b.none bs (of, ap (drop 3) (sym w ∙ e)));
+  cause_is = go cause b.cause_is;
+} where
+  go : (d : Cause) → IsBookmarksCause more d → IsWordsCause (codes "put" ∷ words) d
+  go BadBookmark h = record {
+    event = Put member key value [];
+    more = more;
+    spellable = (f, k, v, All-nil (λ b. Fits b × (b.cluster ≡ 0)));
+    presents = refl;
+    are_words = h;
+    words_are = ap (λ l. codes "put" ∷ l) w;
+  }
+  go BadLine h = λ right. let r = put_right words right in h (subst (λ l. list_all is_bookmark_word l ≡ true) (ap (drop 3)
+      (sym r.words_are ∙ w)) r.are_words)
+  go c.NoHeader h = absurd h
+  go c.NoCluster h = absurd h
+  go UnknownVerb h = absurd h
+  go c.WrongWorld h = absurd h
+  go c.NoMember h = absurd h
+  go c.NoConn h = absurd h
+  go c.NoMessage h = absurd h
+  go c.NoSession h = absurd h
+  go c.WrongRole h = absurd h
+  go c.BackInTime h = absurd h
+  go c.Busy h = absurd h
+
+get_none : (cluster : ℕ) (words : List (List ℕ)) → ((member : ℕ) (key : List ℕ) (bs : List Point) → member < 2 ^ 8 → is_word key ≡ true
+    → AreOf cluster bs → words ≢ decimal member ∷ key ∷ bookmark_words bs)
+    → (e : Event) → AreWords cluster (codes "get" ∷ words) e → ⊥
+get_none cluster words none (Time to) h = omega (arith, ap first_byte h.1)
+get_none cluster words none (Put member key value bs) h = omega (arith, ap first_byte h.1)
+get_none cluster words none (Get member key bs) h = none member key bs h.0.0 h.0.1 h.0.2 (ap (drop 1) h.1)
+get_none cluster words none (Apply member count) h = omega (arith, ap first_byte h.1)
+get_none cluster words none (Open member) h = omega (arith, ap first_byte h.1)
+get_none cluster words none (Bytes conn bytes) h = omega (arith, ap first_byte h.1)
+get_none cluster words none (Close conn) h = omega (arith, ap first_byte h.1)
+
+-- the words of a `get` and others behind it
+record IsGetBut (words : List (List ℕ)) : Type 0 where
+  member : ℕ
+  key : List ℕ
+  more : List (List ℕ)
+  member_fits : member < 2 ^ 8
+  key_is : is_word key ≡ true
+  are_words : list_all is_bookmark_word more ≡ true
+  words_are : words ≡ decimal member ∷ key ∷ more
+
+get_right : (words : List (List ℕ)) → AreRightBut (codes "get" ∷ words) → IsGetBut words
+get_right words r = go r.event r.words_are r.presents r.spellable where
+  go : (e : Event) → codes "get" ∷ words ≡ words_of e ++ r.more → MayPresent e → Spellable 0 e → IsGetBut words
+  go (Time to) w h s = absurd h
+  go (Put member key value bs) w h s = absurd (omega (arith, ap first_byte w))
+  go (Get member key bs) w h s = record {
+    member = member;
+    key = key;
+    more = r.more;
+    member_fits = s.0;
+    key_is = s.1;
+    are_words = r.are_words;
+    words_are = ap (drop 1) w ∙ ap (λ l. (decimal member ∷ key ∷ bookmark_words l) ++ r.more) h;
+  }
+  go (Apply member count) w h s = absurd h
+  go (Open member) w h s = absurd h
+  go (Bytes conn bytes) w h s = absurd h
+  go (Close conn) w h s = absurd h
+
+-- what stands in front of the bookmarks has another form
+pub get_bad : (cluster : ℕ) (words : List (List ℕ)) → ((member : ℕ) (key : List ℕ) (more : List (List ℕ)) → member < 2 ^ 8 →
+    is_word key ≡ true → words ≢ decimal member ∷ key ∷ more)
+    → AreBad cluster (codes "get" ∷ words) BadLine
+get_bad cluster words none = record {
+  none = get_none cluster words (λ member key bs f k of. none member key (bookmark_words bs) f k);
+  cause_is = λ right. let r = get_right words right in none r.member r.key r.more r.member_fits r.key_is r.words_are;
+}
+
+-- the bookmarks are none
+pub get_no_bookmarks : (cluster : ℕ) (words : List (List ℕ)) (member : ℕ) (key : List ℕ) (more : List (List ℕ)) (cause : Cause) →
+    member < 2 ^ 8 → is_word key ≡ true → words ≡ decimal member ∷ key ∷ more
+    → AreNoBookmarks cluster more cause → AreBad cluster (codes "get" ∷ words) cause
+get_no_bookmarks cluster words member key more cause f k w b = record {
+  none = get_none cluster words (λ m x bs g h of e. b.none bs (of, ap (drop 2) (sym w ∙ e)));
+  cause_is = go cause b.cause_is;
+} where
+  go : (d : Cause) → IsBookmarksCause more d → IsWordsCause (codes "get" ∷ words) d
+  go BadBookmark h = record {
+    event = Get member key [];
+    more = more;
+    spellable = (f, k, All-nil (λ b. Fits b × (b.cluster ≡ 0)));
+    presents = refl;
+    are_words = h;
+    words_are = ap (λ l. codes "get" ∷ l) w;
+  }
+  go BadLine h = λ right. let r = get_right words right in h (subst (λ l. list_all is_bookmark_word l ≡ true) (ap (drop 2)
+      (sym r.words_are ∙ w)) r.are_words)
+  go c.NoHeader h = absurd h
+  go c.NoCluster h = absurd h
+  go UnknownVerb h = absurd h
+  go c.WrongWorld h = absurd h
+  go c.NoMember h = absurd h
+  go c.NoConn h = absurd h
+  go c.NoMessage h = absurd h
+  go c.NoSession h = absurd h
+  go c.WrongRole h = absurd h
+  go c.BackInTime h = absurd h
+  go c.Busy h = absurd h
+
+cluster_none : (cluster : ℕ) (words : List (List ℕ)) (e : Event) → AreWords cluster (codes "cluster" ∷ words) e → ⊥
+cluster_none cluster words (Time to) h = omega (arith, ap first_byte h.1)
+cluster_none cluster words (Put member key value bs) h = omega (arith, ap first_byte h.1)
+cluster_none cluster words (Get member key bs) h = omega (arith, ap first_byte h.1)
+cluster_none cluster words (Apply member count) h = omega (arith, ap first_byte h.1)
+cluster_none cluster words (Open member) h = omega (arith, ap first_byte h.1)
+cluster_none cluster words (Bytes conn bytes) h = omega (arith, ap first_byte h.1)
+cluster_none cluster words (Close conn) h = omega (arith, ap first_byte h.1)
+
+pub cluster_bad : (words : List (List ℕ)) (cluster : ℕ) → AreBad cluster (codes "cluster" ∷ words) BadLine
+cluster_bad words cluster = record {
+  none = cluster_none cluster words;
+  cause_is = not_right (codes "cluster" ∷ words) (λ e. omega (arith, e)) (λ e. omega (arith, e));
+}
 
 pub setup_bad : (words : List (List ℕ)) → ((cores replicas cluster wait : ℕ) → 1 ≤ cores → cores ≤ 7 → replicas ≤ 16 →
     cluster < 2 ^ 64 → wait ≤ 86400000 → words ≢ decimal cores ∷ decimal replicas ∷ decimal cluster ∷ decimal wait ∷ []) →
     (s : Setup) → ¬ (AreSetup (codes "cluster" ∷ codes "list" ∷ words) s)
-setup_bad words none s h = none s.cores s.replicas s.cluster s.wait h.0.cores.0 h.0.cores.1 h.0.replicas h.0.cluster h.0.wait
-    (ap (drop 2) h.1)
+setup_bad words none s h = none s.cores s.replicas s.cluster s.wait h.allowed.cores.0 h.allowed.cores.1 h.allowed.replicas h.allowed.id
+    h.allowed.wait (ap (drop 2) h.words_are)
 
--- the cause of a bad line whose verb is known
+-- other words behind `cluster` than `list`
+pub kind_bad : (words : List (List ℕ)) → ((more : List (List ℕ)) → words ≢ codes "list" ∷ more) → (s : Setup)
+    → ¬ (AreSetup (codes "cluster" ∷ words) s)
+kind_bad words none s h =
+    none (decimal s.cores ∷ decimal s.replicas ∷ decimal s.cluster ∷ decimal s.wait ∷ []) (ap (drop 1) h.words_are)
+
+-- ---- between a refused line and its words
 
 known_verb : (v : Verb) → is_verb (verb_word v) ≡ true
 known_verb Verbs.Cluster = refl
@@ -222,7 +565,181 @@ known_verb Verbs.Time = refl
 known_verb Verbs.Put = refl
 known_verb Verbs.Get = refl
 known_verb Verbs.Apply = refl
+known_verb Verbs.Open = refl
+known_verb Verbs.Bytes = refl
+known_verb Verbs.Close = refl
 
-pub verb_cause : (line : List ℕ) (v : Verb) → first_word line ≡ verb_word v → cause_of line ≡ BadLine
-verb_cause line v e =
-    ap (λ b. cond b BadLine UnknownVerb) (ap is_verb e ∙ known_verb v)
+pub is_known : (line : List ℕ) (v : Verb) → first_word line ≡ verb_word v → is_verb (first_word line) ≡ true
+is_known line v e = ap is_verb e ∙ known_verb v
+
+more_no_space : (ws : List (List ℕ)) → list_all is_bookmark_word ws ≡ true → AllByRecursion NoSpace ws
+more_no_space [] h = tt
+more_no_space (w ∷ ws) h =
+    let parts = and_parts (is_bookmark_word w) (list_all is_bookmark_word ws) h in
+    (bookmark_word_no_space w parts.0, more_no_space ws parts.1)
+
+both_no_space : (xs ys : List (List ℕ)) → AllByRecursion NoSpace xs → AllByRecursion NoSpace ys → AllByRecursion NoSpace (xs ++ ys)
+both_no_space [] ys f g = g
+both_no_space (x ∷ xs) ys f g = (f.0, both_no_space xs ys f.1 g)
+
+both_nonempty : (e : Event) (more : List (List ℕ)) → 0 < length (words_of e ++ more)
+both_nonempty (Time to) more = omega arith
+both_nonempty (Put member key value bs) more = omega arith
+both_nonempty (Get member key bs) more = omega arith
+both_nonempty (Apply member count) more = omega arith
+both_nonempty (Open member) more = omega arith
+both_nonempty (Bytes conn bytes) more = omega arith
+both_nonempty (Close conn) more = omega arith
+
+pub right_words : (line : List ℕ) → IsRightBut line → AreRightBut (words_between line)
+right_words line r = record {
+  event = r.event;
+  more = r.words;
+  spellable = r.spellable;
+  presents = r.presents;
+  are_words = r.are_words;
+  words_are = ap words_between r.line_is ∙ words-join (words_of r.event ++ r.words)
+      (both_no_space (words_of r.event) r.words (words_no_space 0 r.event r.spellable) (more_no_space r.words r.are_words))
+      (both_nonempty r.event r.words);
+}
+
+pub words_right : (line : List ℕ) → AreRightBut (words_between line) → IsRightBut line
+words_right line r = record {
+  event = r.event;
+  words = r.more;
+  spellable = r.spellable;
+  presents = r.presents;
+  are_words = r.are_words;
+  line_is = join-words line ∙ ap (join_with_byte 32) r.words_are;
+}
+
+-- a line whose words are those of no event
+pub bad_line : (cluster : ℕ) (line : List ℕ) (cause : Cause) → is_verb (first_word line) ≡ true → AreBad cluster (words_between line) cause
+    → SaysNone cluster line cause
+bad_line cluster line cause known bad = record {
+  none = λ e said. bad.none e (says_words cluster line e said);
+  cause_is = go cause bad.cause_is;
+} where
+  go : (d : Cause) → IsWordsCause (words_between line) d → IsCause line d
+  go BadBookmark h = words_right line h
+  go BadLine h = (known, λ r. h (right_words line r))
+  go c.NoHeader h = absurd h
+  go c.NoCluster h = absurd h
+  go UnknownVerb h = absurd h
+  go c.WrongWorld h = absurd h
+  go c.NoMember h = absurd h
+  go c.NoConn h = absurd h
+  go c.NoMessage h = absurd h
+  go c.NoSession h = absurd h
+  go c.WrongRole h = absurd h
+  go c.BackInTime h = absurd h
+  go c.Busy h = absurd h
+
+-- the first word of an event's words is a verb
+event_known : (e : Event) → is_verb (first_word_of (words_of e)) ≡ true
+event_known (Time to) = refl
+event_known (Put member key value bs) = refl
+event_known (Get member key bs) = refl
+event_known (Apply member count) = refl
+event_known (Open member) = refl
+event_known (Bytes conn bytes) = refl
+event_known (Close conn) = refl
+
+first_of_both : (e : Event) (more : List (List ℕ)) → first_word_of (words_of e ++ more) ≡ first_word_of (words_of e)
+first_of_both (Time to) more = refl
+first_of_both (Put member key value bs) more = refl
+first_of_both (Get member key bs) more = refl
+first_of_both (Apply member count) more = refl
+first_of_both (Open member) more = refl
+first_of_both (Bytes conn bytes) more = refl
+first_of_both (Close conn) more = refl
+
+pub right_known : (line : List ℕ) → first_word line ≡ first_word_of (words_between line) → IsRightBut line → is_verb
+    (first_word line) ≡ true
+right_known line first r =
+    let w = right_words line r in
+    ap is_verb (first ∙ (ap first_word_of w.words_are ∙ first_of_both w.event w.more)) ∙ event_known w.event
+
+-- a line whose first word is no verb
+pub unknown_none : (cluster : ℕ) (line : List ℕ) → first_word line ≡ first_word_of (words_between line) → is_verb (first_word line) ≡ false
+    → SaysNone cluster line UnknownVerb
+unknown_none cluster line first unknown = record {
+  none = λ e said.
+      let known = ap is_verb (first ∙ ap first_word_of (says_words cluster line e said).1) ∙ event_known e in
+      true≢false (sym known ∙ unknown);
+  cause_is = unknown;
+} where
+  true≢false : true ≡ false → ⊥
+  true≢false e = cc
+
+-- the first word of a line is the first of its words
+pub first_of_line : (line : List ℕ) → first_word line ≡ first_word_of (words_between line)
+first_of_line line = elim (cases_lt (position_or_len (λ b. b == 32) line) (length line)) [
+  | inl within ↦ sym (ap first_word_of (slice_split_first (λ b. b == 32) line 0 within))
+  | inr past ↦ take_all (position_or_len (λ b. b == 32) line) line past
+      ∙ sym (ap first_word_of (slice_split_none (λ b. b == 32) line (no_space_before line past)))
+]
+
+pub cluster_first : (line : List ℕ) (s : Setup) → SaysCluster line s → first_word line ≡ codes "cluster"
+cluster_first line s says = first_of_line line ∙ ap first_word_of (says_words_cluster line s says).words_are
+
+-- ---- words that are no bookmarks
+
+all_words : (bs : List Point) → list_all is_bookmark_word (bookmark_words bs) ≡ true
+all_words [] = refl
+all_words (b ∷ bs) = both (is_bookmark_word (text_of b)) (list_all is_bookmark_word (bookmark_words bs)) (text_is_word b)
+    (all_words bs) where
+      both : (x y : Bool) → x ≡ true → y ≡ true → (x && y) ≡ true
+      both x y e f = cc
+
+-- the cause of an error
+pub cause_is : {T : Type 0} (a b : Cause) → IsErrOf {T = T} (Err (LineErrors.Cause a)) (LineErrors.Cause b) → a ≡ b
+cause_is a b h = cc
+
+pub no_words : (cluster : ℕ) (words : List (List ℕ)) (cause : Cause) → list_all is_bookmark_word words ≡ false → BadLine ≡ cause
+    → AreNoBookmarks cluster words cause
+no_words cluster words cause h e = subst (AreNoBookmarks cluster words) e (record {
+  none = λ bs are. differ (list_all is_bookmark_word words) (ap (list_all is_bookmark_word) are.1 ∙ all_words bs) h;
+  cause_is = λ all. differ (list_all is_bookmark_word words) all h;
+}) where
+  differ : (x : Bool) → x ≡ true → x ≡ false → ⊥
+  differ x e f = cc
+
+-- ---- the cluster line
+
+pub cluster_says : (line verb : List ℕ) (words : List (List ℕ)) (s : Setup) → words_between line ≡ verb ∷ words → verb ≡ codes "cluster"
+    → AreSetup (codes "cluster" ∷ words) s → SaysCluster line s
+cluster_says line verb words s e f are =
+    words_say_cluster line s (subst (λ l. AreSetup l s) (sym (e ∙ ap (λ w. w ∷ words) f)) are)
+
+pub cluster_none_says : (line verb : List ℕ) (words : List (List ℕ)) (cause : Cause) → words_between line ≡ verb ∷ words
+    → verb ≡ first_word line → verb ≡ codes "cluster" → ((s : Setup) → AreSetup (codes "cluster" ∷ words) s → ⊥)
+    → IsErrOf {T = Setup} (Err BadLine) cause → IsNoCluster line cause
+cluster_none_says line verb words cause e f g none h =
+    subst (IsNoCluster line) (same h) (
+      sym f ∙ g,
+      λ s says. none s (subst (λ l. AreSetup l s) (e ∙ ap (λ w. w ∷ words) g) (says_words_cluster line s says)),
+    ) where
+      same : IsErrOf {T = Setup} (Err BadLine) cause → BadLine ≡ cause
+      same h = cc
+
+-- ---- an event's words
+
+pub none_bad : (cluster : ℕ) (words : List (List ℕ)) (o : Option Event) (r : Result Event LineError) (cause : Cause)
+    → r ≡ ok_or o (LineErrors.Cause BadLine) → IfNone o ((k : ℕ) → AreBad k words BadLine) → IsErrOf r (LineErrors.Cause cause)
+    → AreBad cluster words cause
+none_bad cluster words None r cause e none h =
+    let same : BadLine ≡ cause = cause_is {T = Event} BadLine cause (sym e ∙ h) in
+    subst (AreBad cluster words) same (none cluster)
+none_bad cluster words (Some x) r cause e none h = absurd (differ (sym e ∙ h)) where
+  differ : {E : Type 0} {y : E} → Ok x ≡ Err y → ⊥
+  differ e = cc
+
+pub bytes_front : (words rest more : List (List ℕ)) (conn : ℕ) (word : List ℕ) → words ≡ decimal conn ∷ rest → rest ≡ word ∷ more
+    → ((bytes : List ℕ) → 1 ≤ length bytes → length bytes ≤ 1_048_576 → word ≡ hex bytes → more ≡ [] → ⊥) → (cluster : ℕ)
+    → AreBad cluster (codes "bytes" ∷ words) BadLine
+bytes_front words rest more conn word e f none =
+    bytes_bad words (λ c bytes fits some few are is.
+    let back : rest ≡ hex bytes ∷ [] = ap (drop 1) (sym e ∙ is) in
+    let both : word ∷ more ≡ hex bytes ∷ [] = sym f ∙ back in
+    none bytes some few (ap first_word_of both) (ap (drop 1) both))

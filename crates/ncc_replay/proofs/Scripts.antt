@@ -1,23 +1,47 @@
 -- A script as it is read: its lines, and what those so far make.
-use Rattle.std.proofs.Common.{◌≡◌, ℕ, zero, suc, ◌+◌, ◌-◌, ◌<◌, ◌≤◌, ◌==◌, List, [], ◌∷◌, ◌++◌, length, take, drop, get_or, Option}
-use Rattle.std.proofs.Common.{None, Some, Bool, true, false, cond, not, Err, IsErrOf, refl, ap, sym, ◌∙◌, arith, subst, inl, inr}
-use Rattle.std.proofs.Common.{append_assoc, eqb-true}
-use Rattle.std.specs.Prelude.{position, filter}
-use Rattle.std.specs.List.{onto_first, enumerate_from, position_or_len}
-use Rattle.std.proofs.lemmas.Bool.{false≢true, eq-eqb}
+use Rattle.std.proofs.Common.{◌≡◌, ◌≢◌, ℕ, zero, suc, ◌+◌, ◌-◌, ◌<◌, ◌≤◌, ◌^◌, ◌==◌, List, [], ◌∷◌, ◌++◌, length, take, drop, get_or}
+use Rattle.std.proofs.Common.{Option}
+use Rattle.std.proofs.Common.{None, Some, Bool, true, false, cond, not, Err, IsErrOf, IsTrue, refl, ap, sym, ◌∙◌, arith, subst, inl}
+use Rattle.std.proofs.Common.{inr, codes}
+use Rattle.std.proofs.Common.{append_assoc, eqb-true, ltb-false, ltb-true, nat_lt}
+use Rattle.std.specs.Prelude.{position}
+use Rattle.std.specs.List.{onto_first, enumerate_from, position_or_len, join_with_byte}
+use Rattle.std.proofs.lemmas.Bool.{false≢true, eq-eqb, lt-ltb}
 use Rattle.std.proofs.lemmas.List.{append-nil, take_rest}
 use Rattle.std.proofs.Math.ListN.{drop_of_length-le}
 use Rattle.std.proofs.lemmas.List.Sums.{fails_before_first}
 use Rattle.std.proofs.lemmas.List.Quantifiers.{position-Some}
-use Rattle.ncc_replay.specs.Run.{Run, happens, run_on}
-use Rattle.ncc_replay.specs.Line.{Says, SaysCluster, header, is_skipped}
-use Rattle.ncc_replay.specs.Script.{Script, MakeScript, RefuseLine, RefuseEvent, SayEvents, Accepted, refusal, lines_of, cause_of, start_of}
-use Rattle.ncc_replay.specs.Progress.{Reached, RunIs, kept_from}
-use Rattle.ncc_replay.specs.declared.event.Event.{Event}
-use Rattle.ncc_replay.specs.declared.event.Setup.{Setup}
+use Rattle.ncc_world.specs.declared.setup.Setup.{Setup}
+use Rattle.ncc_world.specs.declared.event.Event.{Event}
+use Rattle.ncc_world.specs.declared.event.Event.TheVariants.{Time, Put, Get, Apply, Open, Bytes, Close}
+use Rattle.ncc_world.specs.declared.error.WorldError.{WorldError}
+use Rattle.ncc_world.specs.declared.error.WorldError.TheVariants as w
+use Rattle.ncc_world.specs.declared.error.Which.{Which}
+use Rattle.ncc_world.specs.declared.error.Which.TheVariants.{Line as LineLimit, Events as EventsLimit}
+use Rattle.ncc_world.specs.Events.{MayHappen}
+use Rattle.ncc_world.specs.Happening.{ListRun, start_of, refusal, Happens}
+use Rattle.ncc_world.specs.World.{Kept, Stands, Standing, alive, past, is_refusal}
+use Rattle.ncc_replay.specs.Line.{Says, SaysNone, SaysCluster, Spellable, bookmark_words, words_of, header, is_skipped}
+use Rattle.ncc_replay.specs.Script.{Script, End, whole, refused, limited, Lines, lines_of, Counts, Accepted, IsRefusedFor, EventLines}
+use Rattle.ncc_replay.specs.Script.{ClusterLines}
+use Rattle.ncc_replay.specs.Script.{ScriptLines, IsNoCluster, is_long, max_events, cause_of}
+use Rattle.std.proofs.Common.{length-append}
+use Rattle.std.proofs.lemmas.List.{length-map}
+use Rattle.ncc_bookmark.specs.Spelling.{text_of}
+use Rattle.ncc_replay.specs.Progress.{Reached, GoesOn, EndsAt, EndsSo, IsRunOf}
+use Rattle.ncc_replay.specs.declared.script.Progress.{Progress}
+use Rattle.ncc_replay.specs.declared.script.Progress.TheVariants.{Header, Cluster, Events}
+use Rattle.ncc_replay.specs.declared.script.ScriptError.{ScriptError}
+use Rattle.ncc_replay.specs.declared.script.ScriptError.TheVariants.{Bad, Limit, Memory}
 use Rattle.ncc_replay.specs.declared.status.Cause.{Cause}
-use Rattle.ncc_replay.proofs.Turns.{position_none}
-use Rattle.ncc_replay.proofs.Lines.{says_one}
+use Rattle.ncc_replay.specs.declared.status.Cause.TheVariants.{NoHeader}
+
+position_none : {X : Type 0} (p : X → Bool) (xs : List X) → position p xs ≡ None → length xs ≤ position_or_len p xs
+position_none p xs e = go (nat_lt (position_or_len p xs) (length xs)) refl e where
+  go : (b : Bool) → nat_lt (position_or_len p xs) (length xs) ≡ b → cond b (Some (position_or_len p xs)) None ≡ None →
+      length xs ≤ position_or_len p xs
+  go true h e = absurd (cc)
+  go false h e = ltb-false (position_or_len p xs) (length xs) h
 
 first_line : (i : ℕ) (text : List ℕ) → i < length text → get_or text i 0 ≡ 10 → ((k : ℕ) → k < i → get_or text k 0 ≡ 10 → ⊥) →
     lines_of text ≡ take i text ∷ lines_of (drop (suc i) text)
@@ -59,137 +83,230 @@ pub lines_end : lines_of [] ≡ []
 unfolding lines_of
 lines_end = refl
 
--- a line that counts, and those behind it
-pub kept_line : (n : ℕ) (text line behind : List ℕ) → lines_of text ≡ line ∷ lines_of behind → is_skipped line ≡ false →
-    kept_from n text ≡ (n, line) ∷ kept_from (n + 1) behind
-kept_line n text line behind e h =
-    let count : ℕ × List ℕ → Bool = λ l. not (is_skipped l.1) in
-    ap (λ ls. filter count (enumerate_from n ls)) e
-    ∙ ap (λ t. cond (not t) ((n, line) ∷ kept_from (n + 1) behind) (kept_from (n + 1) behind)) h
+-- the lines of a text, with their numbers
+pub numbered_line : (n : ℕ) (text line behind : List ℕ) → lines_of text ≡ line ∷ lines_of behind
+    → enumerate_from n (lines_of text) ≡ (n, line) ∷ enumerate_from (n + 1) (lines_of behind)
+numbered_line n text line behind e = ap (enumerate_from n) e
 
-pub kept_skip : (n : ℕ) (text line behind : List ℕ) → lines_of text ≡ line ∷ lines_of behind → is_skipped line ≡ true →
-    kept_from n text ≡ kept_from (n + 1) behind
-kept_skip n text line behind e h =
-    let count : ℕ × List ℕ → Bool = λ l. not (is_skipped l.1) in
-    ap (λ ls. filter count (enumerate_from n ls)) e
-    ∙ ap (λ t. cond (not t) ((n, line) ∷ kept_from (n + 1) behind) (kept_from (n + 1) behind)) h
+pub numbered_end : (n : ℕ) (text : List ℕ) → text ≡ [] → enumerate_from n (lines_of text) ≡ []
+numbered_end n text e = ap (λ t. enumerate_from n (lines_of t)) e ∙ ap (enumerate_from n) lines_end
 
-pub kept_end : (n : ℕ) (text : List ℕ) → text ≡ [] → kept_from n text ≡ []
-kept_end n text e =
-    let count : ℕ × List ℕ → Bool = λ l. not (is_skipped l.1) in
-    ap (λ t. filter count (enumerate_from n (lines_of t))) e ∙ ap (λ ls. filter count (enumerate_from n ls)) lines_end
+-- ---- one line more
 
-run_on_push : (done : List (ℕ × Event)) (e : ℕ × Event) (r : Run) → run_on (done ++ (e ∷ [])) r ≡ happens e.0 e.1 (run_on done r)
-run_on_push [] e r = refl
-run_on_push (d ∷ done) e r = run_on_push done e (happens d.0 d.1 r)
+-- at a line that is too long
+pub long_ends : (all rest : Lines) (number : ℕ) (line : List ℕ) (p : Progress) → is_long line ≡ true
+    → GoesOn all ((number, line) ∷ rest) p → EndsAt all (limited LineLimit)
+long_ends all rest number line Header h g =
+    let none : Script = record { setup = None; events = [] } in
+    (none, None, g none None (limited LineLimit) (ScriptLines.long number line rest h))
+long_ends all rest number line Cluster h g =
+    let none : Script = record { setup = None; events = [] } in
+    (none, None, g none None (limited LineLimit) (ClusterLines.long number line rest h))
+long_ends all rest number line (Events count world) h g =
+    let says : Script = record { setup = Some g.setup; events = g.done ++ [] } in
+    (says, Some g.run, g.goes_on [] g.run (limited LineLimit) (EventLines.long count g.run number line rest h))
 
-say_more : (cluster : ℕ) (r : Run) (front : List (ℕ × List ℕ)) (done : List (ℕ × Event)) (l : ℕ × List ℕ) (e : Event) →
-    SayEvents cluster r front done → Accepted cluster (run_on done r) l.1 e →
-    SayEvents cluster r (front ++ (l ∷ [])) (done ++ ((l.0, e) ∷ []))
-say_more cluster r [] [] l e h a = (refl, a, tt)
-say_more cluster r [] (d ∷ done) l e h a = absurd h
-say_more cluster r (f ∷ front) [] l e h a = absurd h
-say_more cluster r (f ∷ front) (d ∷ done) l e h a = (
-  h.0,
-  h.1,
-  say_more cluster (happens f.0 d.1 r) front done l e h.2
-      (subst (λ n. Accepted cluster (run_on done (happens n d.1 r)) l.1 e) h.0 a),
-)
-
-refuse_more : (cluster : ℕ) (r : Run) (front rest : List (ℕ × List ℕ)) (done : List (ℕ × Event)) (at : ℕ) (cause : Cause) →
-    SayEvents cluster r front done → RefuseEvent cluster (run_on done r) rest at cause → RefuseEvent cluster r (front ++ rest) at cause
-refuse_more cluster r [] rest [] at cause h b = b
-refuse_more cluster r [] rest (d ∷ done) at cause h b = absurd h
-refuse_more cluster r (f ∷ front) rest [] at cause h b = absurd h
-refuse_more cluster r (f ∷ front) rest (d ∷ done) at cause h b =
-    inr (
-      d.1,
-      h.1,
-      refuse_more cluster (happens f.0 d.1 r) front rest done at cause h.2
-          (subst (λ n. RefuseEvent cluster (run_on done (happens n d.1 r)) rest at cause) h.0 b),
-    )
-
--- the cluster line is read
-pub reached_first : (all rest : List (ℕ × List ℕ)) (first second : ℕ × List ℕ) (setup : Setup) (world : Option Run) →
-    all ≡ first ∷ second ∷ rest → first.1 ≡ header → SaysCluster second.1 setup → world ≡ Some (start_of setup) →
-    Reached all rest setup.cluster world
-reached_first all rest first second setup world e h s w = record {
-  first = first;
-  second = second;
-  front = [];
-  setup = setup;
-  done = [];
-  whole = e;
-  is_header = h;
-  says = s;
-  cluster_is = refl;
-  said = tt;
-  run_is = w;
-}
-
--- one more event is read
-pub reached_more : (all rest : List (ℕ × List ℕ)) (cluster number : ℕ) (line : List ℕ) (world new : Option Run) (e : Event) →
-    Says cluster line e
-    → ((r : Run) → world ≡ Some r → (refusal r e ≡ None) × (new ≡ Some (happens number e r)))
-    → Reached all ((number, line) ∷ rest) cluster world → Reached all rest cluster new
-reached_more all rest cluster number line world new e says event r =
-    let now : Run = run_on r.done (start_of r.setup) in
-    let happened : (refusal now e ≡ None) × (new ≡ Some (happens number e now)) = event now r.run_is in
+-- at a line that is skipped
+pub skip_goes : (all rest : Lines) (number : ℕ) (line : List ℕ) (p : Progress) → is_long line ≡ false → is_skipped line ≡ true
+    → GoesOn all ((number, line) ∷ rest) p → GoesOn all rest p
+skip_goes all rest number line Header f h g =
+    λ says t end more. g says t end (ScriptLines.skipped number line rest says t end f h more)
+skip_goes all rest number line Cluster f h g =
+    λ says t end more. g says t end (ClusterLines.skipped number line rest says t end f h more)
+skip_goes all rest number line (Events count world) f h g =
     record {
-      first = r.first;
-      second = r.second;
-      front = r.front ++ ((number, line) ∷ []);
-      setup = r.setup;
-      done = r.done ++ ((number, e) ∷ []);
-      whole = r.whole ∙ ap (λ l. r.first ∷ r.second ∷ l) (sym (append_assoc r.front ((number, line) ∷ []) rest));
-      is_header = r.is_header;
-      says = r.says;
-      cluster_is = r.cluster_is;
-      said = say_more r.setup.cluster (start_of r.setup) r.front r.done (
-        number,
-        line,
-      ) e r.said (record { says = subst (λ k. Says k line e) r.cluster_is says; allowed = happened.0 });
-      run_is = happened.1 ∙ ap Some (sym (run_on_push r.done (number, e) (start_of r.setup)));
+      setup = g.setup;
+      run = g.run;
+      done = g.done;
+      setup_is = g.setup_is;
+      stands = g.stands;
+      goes_on = λ es t end more. g.goes_on es t end (EventLines.skipped count g.run number line rest es t end f h more);
     }
 
--- a line that is no accepted event
-pub reached_bad : (all rest : List (ℕ × List ℕ)) (cluster number : ℕ) (line : List ℕ) (world : Option Run) (at : ℕ) (cause : Cause)
-    → ((r : Run) → world ≡ Some r → (e : Event) → ¬ (Accepted cluster r line e)) → at ≡ number → cause ≡ cause_of line
-    → Reached all ((number, line) ∷ rest) cluster world → RefuseLine all at cause
-reached_bad all rest cluster number line world at cause bad n c r =
-    let now : Run = run_on r.done (start_of r.setup) in
-    let none : (e : Event) → ¬ (Accepted r.setup.cluster now line e) =
-    λ e a. bad now r.run_is e (subst (λ k. Accepted k now line e) (sym r.cluster_is) a) in
-    subst (λ l. RefuseLine l at cause) (sym r.whole)
-    (inr (inr (
-      r.is_header,
-      r.setup,
-      r.says,
-      refuse_more r.setup.cluster (start_of r.setup) r.front ((number, line) ∷ rest) r.done at cause r.said (inl (none, n, c)),
-    )))
+-- at the header
+pub header_goes : (all rest : Lines) (number : ℕ) (line : List ℕ) → Counts line → line ≡ header
+    → GoesOn all ((number, line) ∷ rest) Header → GoesOn all rest Cluster
+header_goes all rest number line c e g = λ says t end more. g says t end (ScriptLines.is_header number line rest says t end c e more)
 
--- an event that the run refuses
-pub refused_none : (cluster : ℕ) (r : Run) (line : List ℕ) (e : Event) → Says cluster line e → (refusal r e ≡ None → ⊥) →
-    (d : Event) → ¬ (Accepted cluster r line d)
-refused_none cluster r line e says refused d a =
-    let same : d ≡ e = says_one cluster line d e a.says says in
-    refused (subst (λ x. refusal r x ≡ None) same a.allowed)
+pub header_ends : (all rest : Lines) (number : ℕ) (line : List ℕ) → Counts line → line ≢ header
+    → GoesOn all ((number, line) ∷ rest) Header → EndsAt all (refused number NoHeader)
+header_ends all rest number line c e g =
+    let none : Script = record { setup = None; events = [] } in
+    (none, None, g none None (refused number NoHeader) (ScriptLines.other number line rest c e))
 
--- the whole is read
-pub reached_end : (all : List (ℕ × List ℕ)) (cluster : ℕ) (world : Option Run) → Reached all [] cluster world → (s : Script)
-    × MakeScript all s × RunIs (Some world) s
-reached_end all cluster world r =
-    let s : Script = record { setup = Some r.setup; events = r.done } in
-    let whole : all ≡ r.first ∷ r.second ∷ r.front = r.whole ∙ ap (λ l. r.first ∷ r.second ∷ l) (append-nil r.front) in
-    (s, subst (λ l. MakeScript l s) (sym whole) (r.is_header, r.setup, refl, r.says, r.said), (r.setup, refl, r.run_is))
+-- at the cluster line
+pub cluster_goes : (all rest : Lines) (number : ℕ) (line : List ℕ) (setup : Setup) (world : Kept) → Counts line → SaysCluster line setup
+    → Stands world (start_of setup) → world.setup ≡ setup → GoesOn all ((number, line) ∷ rest) Cluster → Reached all rest 0 world
+cluster_goes all rest number line setup world c says stands same g = record {
+  setup = setup;
+  run = start_of setup;
+  done = [];
+  setup_is = same;
+  stands = stands;
+  goes_on = λ es t end more. g (record { setup = Some setup; events = es }) (Some t) end
+      (ClusterLines.says number line rest setup es t end c says more);
+}
 
-pub header_end : (all : List (ℕ × List ℕ)) → [] ≡ all → (s : Script) × MakeScript all s × RunIs None s
-header_end all e = let s : Script = record { setup = None; events = [] } in (s, subst (λ l. MakeScript l s) e refl, refl)
+pub cluster_ends : (all rest : Lines) (number : ℕ) (line : List ℕ) (cause : Cause) → Counts line → IsNoCluster line cause
+    → GoesOn all ((number, line) ∷ rest) Cluster → EndsAt all (refused number cause)
+cluster_ends all rest number line cause c none g =
+    let nothing : Script = record { setup = None; events = [] } in
+    (nothing, None, g nothing None (refused number cause) (ClusterLines.says_none number line rest cause c none))
 
-pub cluster_end : (all : List (ℕ × List ℕ)) (first : ℕ × List ℕ) → all ≡ first ∷ [] → first.1 ≡ header → (s : Script)
-    × MakeScript all s × RunIs None s
-cluster_end all first e h = let s : Script = record { setup = None; events = [] } in
-    (s, subst (λ l. MakeScript l s) (sym e) (h, refl), refl)
+-- at an event
+pub event_goes : (all rest : Lines) (count number : ℕ) (line : List ℕ) (world new : Kept) (event : Event) → Counts line
+    → Says world.setup.cluster line event → count < max_events
+    → ((r : ListRun) → Stands world r → (t : ListRun) × Happens world.setup number event r t × Stands new t) → new.setup ≡ world.setup
+    → Reached all ((number, line) ∷ rest) count world → Reached all rest (count + 1) new
+event_goes all rest count number line world new event c says few happens same g =
+    let h = happens g.run g.stands in
+    let happened : Happens g.setup number event g.run h.0 = subst (λ x. Happens x number event g.run h.0) g.setup_is h.1 in
+    let accepted : Accepted g.setup g.run line event = record {
+      counts = c;
+      says = subst (λ (x : Setup). Says x.cluster line event) g.setup_is says;
+      allowed = happened.allowed;
+    } in
+    record {
+      setup = g.setup;
+      run = h.0;
+      done = g.done ++ ((number, event) ∷ []);
+      setup_is = same ∙ g.setup_is;
+      stands = h.2;
+      goes_on = λ es t end more.
+          subst (λ l. ScriptLines all (record { setup = Some g.setup; events = l }) (Some t) end)
+          (sym (append_assoc g.done ((number, event) ∷ []) es))
+          (g.goes_on ((number, event) ∷ es) t end
+          (EventLines.happens count g.run h.0 number line rest event es t end accepted few happened more));
+    }
+
+-- at an event that is one too many
+pub many_ends : (all rest : Lines) (count number : ℕ) (line : List ℕ) (world new : Kept) (event : Event) → Counts line
+    → Says world.setup.cluster line event → max_events ≤ count
+    → ((r : ListRun) → Stands world r → (t : ListRun) × Happens world.setup number event r t × Stands new t)
+    → Reached all ((number, line) ∷ rest) count world → EndsAt all (limited EventsLimit)
+many_ends all rest count number line world new event c says many happens g =
+    let h = happens g.run g.stands in
+    let accepted : Accepted g.setup g.run line event = record {
+      counts = c;
+      says = subst (λ (x : Setup). Says x.cluster line event) g.setup_is says;
+      allowed = h.1.allowed;
+    } in
+    let said : Script = record { setup = Some g.setup; events = g.done ++ [] } in
+    (said, Some g.run, g.goes_on [] g.run (limited EventsLimit) (EventLines.many count g.run number line rest event accepted many))
+
+-- at a line that says no event
+pub none_ends : (all rest : Lines) (count number : ℕ) (line : List ℕ) (world : Kept) (cause : Cause) → Counts line
+    → SaysNone world.setup.cluster line cause → Reached all ((number, line) ∷ rest) count world → EndsAt all (refused number cause)
+none_ends all rest count number line world cause c none g =
+    let said : Script = record { setup = Some g.setup; events = g.done ++ [] } in (
+      said,
+      Some g.run,
+      g.goes_on [] g.run (refused number cause) (EventLines.says_none count g.run number line rest cause c
+          (subst (λ (x : Setup). SaysNone x.cluster line cause) g.setup_is none)),
+    )
+
+-- at an event that the world refuses
+pub refused_ends : (all rest : Lines) (count number : ℕ) (line : List ℕ) (world : Kept) (event : Event) (error : WorldError) (cause : Cause)
+    → Counts line → Says world.setup.cluster line event → ((r : ListRun) → Stands world r → refusal r event ≡ Some error)
+    → cause_of error ≡ Some cause → Reached all ((number, line) ∷ rest) count world → EndsAt all (refused number cause)
+refused_ends all rest count number line world event error cause c says refuses why g =
+    let said : Script = record { setup = Some g.setup; events = g.done ++ [] } in (
+      said,
+      Some g.run,
+      g.goes_on [] g.run (refused number cause) (EventLines.not_allowed count g.run number line rest event cause c
+          (subst (λ (x : Setup). Says x.cluster line event) g.setup_is says)
+          (record { error = error; refuses = refuses g.run g.stands; cause_is = why })),
+    )
+
+-- a cause stands for a refusal
+is_refused : (error : WorldError) (cause : Cause) → cause_of error ≡ Some cause → IsTrue (is_refusal error)
+is_refused w.NoMember cause e = refl
+is_refused w.NoConn cause e = refl
+is_refused w.NoMessage cause e = refl
+is_refused w.NoSession cause e = refl
+is_refused w.BackInTime cause e = refl
+is_refused w.WrongWorld cause e = refl
+is_refused w.WrongRole cause e = refl
+is_refused w.Busy cause e = refl
+is_refused (w.Limit which) cause e = absurd (cc)
+is_refused w.Memory cause e = absurd (cc)
+
+not_past : (which : Which) → alive ≡ past which → ⊥
+not_past which e = cc
+
+-- at an event that the world did not make
+pub error_ends : (all rest : Lines) (count number : ℕ) (line : List ℕ) (world : Kept) (event : Event) (error : WorldError)
+    (result : ScriptError)
+    → Counts line → Says world.setup.cluster line event
+    → ((r : ListRun) → Stands world r → IsTrue (is_refusal error) → refusal r event ≡ Some error)
+    → ((which : Which) → error ≡ w.Limit which → world.standing ≡ past which)
+    → ((at : ℕ) (cause : Cause) → result ≡ Bad at cause → (cause_of error ≡ Some cause) × (at ≡ number))
+    → ((which : Which) → result ≡ Limit which → error ≡ w.Limit which)
+    → Reached all ((number, line) ∷ rest) count world → EndsSo all result
+error_ends all rest count number line world event error Memory c says refuses limit bad limits g = tt
+error_ends all rest count number line world event error (Limit which) c says refuses limit bad limits g =
+    absurd (not_past which (sym g.stands.goes_on ∙ limit which (limits which refl)))
+error_ends all rest count number line world event error (Bad at cause) c says refuses limit bad limits g =
+    let why = bad at cause refl in
+    subst (λ n. EndsAt all (refused n cause)) (sym why.1)
+    (refused_ends all rest count number line world event error cause c says (λ r st. refuses r st (is_refused error cause why.0)) why.0 g)
+
+-- at a line that is none
+pub line_ends : (all rest : Lines) (count number : ℕ) (line : List ℕ) (world : Kept) (result : ScriptError) → Counts line
+    → ((at : ℕ) (cause : Cause) → result ≡ Bad at cause → SaysNone world.setup.cluster line cause × (at ≡ number))
+    → ((which : Which) → result ≡ Limit which → ⊥) → Reached all ((number, line) ∷ rest) count world → EndsSo all result
+line_ends all rest count number line world Memory c bad limits g = tt
+line_ends all rest count number line world (Limit which) c bad limits g = absurd (limits which refl)
+line_ends all rest count number line world (Bad at cause) c bad limits g =
+    let why = bad at cause refl in
+    subst (λ n. EndsAt all (refused n cause)) (sym why.1) (none_ends all rest count number line world cause c why.0 g)
+
+-- ---- no line is left
+
+pub all_read : (all : Lines) (count : ℕ) (world : Kept) → Reached all [] count world
+    → (says : Script) × (t : Option ListRun) × ScriptLines all says t whole × IsRunOf (Some world) says t
+all_read all count world g =
+    let said : Script = record { setup = Some g.setup; events = g.done ++ [] } in (
+      said,
+      Some g.run,
+      g.goes_on [] g.run whole (EventLines.none_left count g.run),
+      (g.run, ap Some (sym g.setup_is), refl, g.stands),
+    )
+
+pub no_cluster_read : (all : Lines) → GoesOn all [] Cluster
+    → (says : Script) × (t : Option ListRun) × ScriptLines all says t whole × IsRunOf None says t
+no_cluster_read all g =
+    let none : Script = record { setup = None; events = [] } in (none, None, g none None whole ClusterLines.none_left, (refl, refl))
+
+pub no_header_read : (all : Lines) → GoesOn all [] Header
+    → (says : Script) × (t : Option ListRun) × ScriptLines all says t whole × IsRunOf None says t
+no_header_read all g =
+    let none : Script = record { setup = None; events = [] } in (none, None, g none None whole ScriptLines.none_left, (refl, refl))
+
+-- ---- what a line of a script says may happen: it has no room for more bookmarks
+
+join_len : (ws : List (List ℕ)) → length ws ≤ length (join_with_byte 32 ws) + 1
+join_len [] = omega arith
+join_len (w ∷ []) = omega arith
+join_len (w ∷ v ∷ vs) = omega (arith, join_len (v ∷ vs), length-append w (32 ∷ join_with_byte 32 (v ∷ vs)))
+
+pub may_happen : (cluster : ℕ) (line : List ℕ) (event : Event) → Says cluster line event → is_long line ≡ false → MayHappen cluster event
+may_happen cluster line (Time to) h f = tt
+may_happen cluster line (Put member key value bs) h f = (
+  h.0.1,
+  h.0.2,
+  h.0.3,
+  omega (arith, ltb-false 2_200_000 (length line) f, ap length h.1, join_len (words_of (Put member key value bs)), length-map bs text_of),
+)
+may_happen cluster line (Get member key bs) h f = (
+  h.0.1,
+  h.0.2,
+  omega (arith, ltb-false 2_200_000 (length line) f, ap length h.1, join_len (words_of (Get member key bs)), length-map bs text_of),
+)
+may_happen cluster line (Apply member count) h f = h.0.1
+may_happen cluster line (Open member) h f = tt
+may_happen cluster line (Bytes conn bytes) h f = (h.0.1, h.0.2)
+may_happen cluster line (Close conn) h f = tt
 
 -- nothing stands behind the whole
 pub no_more : (text : List ℕ) → take (length text - length text) (drop (length text) text) ≡ []
@@ -202,3 +319,14 @@ error_is a b h = cc
 pub empty_is : (text : List ℕ) → (length text == 0) ≡ true → text ≡ []
 empty_is [] e = refl
 empty_is (b ∷ bs) e = absurd (omega (arith, eqb-true (length (b ∷ bs)) 0 e))
+
+-- ---- whether a line is too long
+
+pub is_too_long : (line : List ℕ) → 2_200_000 < length line → is_long line ≡ true
+is_too_long line h = lt-ltb 2_200_000 (length line) h
+
+pub is_not_long : (line : List ℕ) → length line ≤ 2_200_000 → is_long line ≡ false
+is_not_long line h = go (is_long line) refl where
+  go : (b : Bool) → is_long line ≡ b → b ≡ false
+  go false e = refl
+  go true e = absurd (omega (arith, ltb-true 2_200_000 (length line) e, h))

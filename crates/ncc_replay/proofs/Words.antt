@@ -1,14 +1,14 @@
 -- Words: what has no space in it, and a line cut at its spaces.
 use Rattle.std.proofs.Common.{◌≡◌, ◌≢◌, ℕ, ◌+◌, ◌<◌, ◌≤◌, ◌*◌, ◌/◌, ◌%◌, ◌^◌, ◌==◌, nat_lt, nat_le, true, false, not, ◌&&◌, List}
 use Rattle.std.proofs.Common.{[], ◌∷◌, ◌++◌, length, take, drop, replicate, Option, None, Some, All, inl, inr, refl, sym, ap, ◌∙◌}
-use Rattle.std.proofs.Common.{subst, arith, codes, decimal, position, slice_index, get_or, lit<, is_some}
+use Rattle.std.proofs.Common.{Bool, subst, arith, codes, decimal, position, slice_index, get_or, lit<, is_some}
 use Rattle.std.specs.Borrow.{Bor}
 use Rattle.std.specs.List.{AllByRecursion, join_with_byte, list_all, position_or_len}
 use Rattle.std.specs.Str.Parse.{AllDigits}
 use Rattle.std.proofs.lemmas.Bool.{cases_lt, and_parts, ne_eqb, not-true, ltb-true, agree_below_at, lt-ltb, false≢true, cond-true}
 use Rattle.std.proofs.lemmas.Fmt.{decimal_is_IsNumeral, IsAscii-decimal}
 use Rattle.std.proofs.lemmas.List.{get_or_past}
-use Rattle.std.proofs.lemmas.List.Elements.{All-nil, All-cons, All-append, All-replicate, All-from_recursion}
+use Rattle.std.proofs.lemmas.List.Elements.{All-nil, All-cons, All-append, All-head, All-replicate, All-tail, All-from_recursion}
 use Rattle.std.proofs.lemmas.List.Splits.{slice_split_none, slice_split_at, slice_split_first, join_with_byte-slice_split}
 use Rattle.std.proofs.lemmas.List.Splits.{length-slice_split}
 use Rattle.std.proofs.lemmas.List.Sums.{prefix_len_passes}
@@ -17,14 +17,16 @@ use Rattle.std.proofs.lemmas.Str.Parse.{digit_from_value}
 use Rattle.std.specs.Str.{IsAscii, IsUtf8}
 use Rattle.std.proofs.lemmas.Bool.Decides.{nat_tests}
 use Rattle.std.proofs.lemmas.Str.{IsUtf8-from_ascii, IsAscii-append}
-use Rattle.std.proofs.lemmas.Str.Ascii.{IsAscii-nil, IsAscii-cons, IsAscii-from_all}
+use Rattle.std.proofs.lemmas.Str.Ascii.{IsAscii-nil, IsAscii-cons, IsAscii-from_all, All-from_ascii}
 use Rattle.base64.proofs.EngineFacts.{IsAscii-encode_of}
 use Rattle.base64.specs.Engines.{standard}
 use Rattle.base64.specs.GeneralPurpose.{encode_of}
 use Rattle.base64.specs.Rfc4648.{encode_symbols, encode_group, encode_two, encode_one, padding_len}
 use Rattle.ncc_bookmark.specs.Point.{Point}
 use Rattle.ncc_bookmark.specs.Spelling.{payload, text_of}
-use Rattle.ncc_replay.specs.Line.{is_word, is_word_byte}
+use Rattle.ncc_bookmark.proofs.Texts.{length-text_of}
+use Rattle.ncc_world.specs.Events.{is_word, is_word_byte}
+use Rattle.ncc_replay.specs.Line.{is_bookmark_word}
 use Rattle.ncc_replay.specs.Reading.{words_between, words_in}
 
 -- a word that a space doesn't cut
@@ -44,7 +46,7 @@ cut_some line i e =
           ∙ ap (λ n. take n line ∷ words_between (drop (n + 1) line)) found.1,
     )
 
-no_space_before : (line : List ℕ) → length line ≤ position_or_len (λ b. b == 32) line → NoSpace line
+pub no_space_before : (line : List ℕ) → length line ≤ position_or_len (λ b. b == 32) line → NoSpace line
 no_space_before line le k d lt =
     not-true (get_or line k d == 32) (prefix_len_passes (λ b. not (b == 32)) line k d (omega arith))
 
@@ -61,6 +63,10 @@ cut_none line e = elim (cases_lt (position_or_len (λ b. b == 32) line) (length 
 pub some_words : (text : Option (Bor (List ℕ))) → is_some text ≡ true → words_in text ≢ []
 some_words (Some text) h e = omega (arith, length-slice_split (λ b. b == 32) text.now, ap length e)
 some_words None h e = cc
+
+pub none_words : (text : Option (Bor (List ℕ))) → is_some text ≡ false → words_in text ≡ []
+none_words (Some text) h = cc
+none_words None h = refl
 
 -- words without spaces, joined by spaces, are cut into the same words
 
@@ -114,15 +120,17 @@ word_utf8 w h =
 pub decimal_utf8 : (n : ℕ) (w : List ℕ) → n < 2 ^ 64 → w ≡ decimal n → IsUtf8 w
 decimal_utf8 n w h e = subst IsUtf8 (sym e) (IsUtf8-from_ascii (decimal n) (IsAscii-decimal n h))
 
-pub text_utf8 : (p : Point) (w : List ℕ) → w ≡ text_of p → IsUtf8 w
+text_ascii : (p : Point) → IsAscii (text_of p)
 unfolding text_of
-text_utf8 p w e =
-    subst IsUtf8 (sym e) (IsUtf8-from_ascii (codes "ncc:" ++ encode_of standard (payload p))
-    (IsAscii-append (codes "ncc:") (encode_of standard (payload p))
+text_ascii p =
+    IsAscii-append (codes "ncc:") (encode_of standard (payload p))
     (IsAscii-from_all (codes "ncc:") (All-from_recursion (λ b. b < 128) (codes "ncc:") (
       lit< tt,
       (lit< tt, (lit< tt, (lit< tt, tt))),
-    ))) (IsAscii-encode_of standard (payload p))))
+    ))) (IsAscii-encode_of standard (payload p))
+
+pub text_utf8 : (p : Point) (w : List ℕ) → w ≡ text_of p → IsUtf8 w
+text_utf8 p w e = subst IsUtf8 (sym e) (IsUtf8-from_ascii (text_of p) (text_ascii p))
 
 -- no symbol of base64 is a space
 
@@ -162,3 +170,35 @@ text_no_space p =
     (All-append (λ b. (b == 32) ≡ false) (encode_symbols standard.encode_table (payload p))
     (replicate (padding_len (length (payload p))) 61)
     (symbols_no_space (payload p)) (All-replicate (λ b. (b == 32) ≡ false) (padding_len (length (payload p))) 61 refl))
+
+-- what may stand where a bookmark should
+
+bytes_no_space : (bs : List ℕ) → list_all (λ b. nat_lt b 128 && not (b == 32)) bs ≡ true → NoSpace bs
+bytes_no_space [] h = All-nil (λ b. (b == 32) ≡ false)
+bytes_no_space (b ∷ bs) h =
+    let parts = and_parts (nat_lt b 128 && not (b == 32)) (list_all (λ c. nat_lt c 128 && not (c == 32)) bs) h in
+    All-cons (λ x. (x == 32) ≡ false) b bs (not-true (b == 32) (and_parts (nat_lt b 128) (not (b == 32)) parts.0).1)
+    (bytes_no_space bs parts.1)
+
+pub bookmark_word_no_space : (w : List ℕ) → is_bookmark_word w ≡ true → NoSpace w
+bookmark_word_no_space w h =
+    bytes_no_space w (and_parts (nat_le 1 (length w)) (list_all (λ b. nat_lt b 128 && not (b == 32)) w) h).1
+
+plain_bytes : (bs : List ℕ) → All (λ b. b < 128) bs → NoSpace bs → list_all (λ b. nat_lt b 128 && not (b == 32)) bs ≡ true
+plain_bytes [] f g = refl
+plain_bytes (b ∷ bs) f g =
+    let small : nat_lt b 128 ≡ true = lt-ltb b 128 (All-head (λ x. x < 128) b bs f) in
+    let other : (b == 32) ≡ false = All-head (λ x. (x == 32) ≡ false) b bs g in
+    let rest = plain_bytes bs (All-tail (λ x. x < 128) b bs f) (All-tail (λ x. (x == 32) ≡ false) b bs g) in
+    all_three (nat_lt b 128) (b == 32) (list_all (λ c. nat_lt c 128 && not (c == 32)) bs) small other rest where
+      all_three : (x y z : Bool) → x ≡ true → y ≡ false → z ≡ true → ((x && not y) && z) ≡ true
+      all_three x y z e f g = cc
+
+-- the text of a bookmark may stand there
+pub text_is_word : (p : Point) → is_bookmark_word (text_of p) ≡ true
+text_is_word p =
+    let some : nat_le 1 (length (text_of p)) ≡ true = ap (nat_le 1) (length-text_of p) in
+    let plain = plain_bytes (text_of p) (All-from_ascii (text_of p) (text_ascii p)) (text_no_space p) in
+    both (nat_le 1 (length (text_of p))) (list_all (λ b. nat_lt b 128 && not (b == 32)) (text_of p)) some plain where
+      both : (x y : Bool) → x ≡ true → y ≡ true → (x && y) ≡ true
+      both x y e f = cc

@@ -1,10 +1,3 @@
-pub mod State
-pub mod Run
-pub mod Request
-pub mod Moment
-pub mod Cluster
-pub mod Lawful
-pub mod Headline
 pub mod Line
 pub mod Script
 pub mod Progress

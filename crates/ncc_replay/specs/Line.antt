@@ -1,20 +1,29 @@
--- The lines of a script: the one spelling of each event, as words that single spaces separate.
-use Rattle.std.specs.Prelude.{◌≡◌, ℕ, ◌^◌, ◌<◌, ◌≤◌, ◌==◌, nat_le, Bool, true, ◌||◌, ◌&&◌, List, [], ◌∷◌, length, map, codes, decimal, All}
-use Rattle.std.specs.List.{join_with_byte, list_all, list_any, before_first}
+-- The lines of a script: the one spelling of each event, as words that single spaces separate, and why a line is refused.
+use Rattle.std.specs.Prelude.{◌≡◌, ℕ, ◌+◌, ◌/◌, ◌%◌, ◌^◌, ◌<◌, ◌≤◌, ◌==◌, nat_lt, nat_le, Bool, true, false, not, ◌||◌, ◌&&◌}
+use Rattle.std.specs.Prelude.{if◌then◌else◌, List}
+use Rattle.std.specs.Prelude.{[], ◌∷◌, ◌++◌, length, map, codes, decimal}
+use Rattle.std.specs.List.{All, flat_map, join_with_byte, list_all, list_any, before_first}
 use Rattle.std.specs.Str.{bytes_eq}
-use Rattle.ncc_bookmark.specs.Point.{Point, Fits}
+use Rattle.ncc_bookmark.specs.Point.{Point}
 use Rattle.ncc_bookmark.specs.Spelling.{text_of}
-use Rattle.ncc_replay.specs.declared.event.Event.{Event}
-use Rattle.ncc_replay.specs.declared.event.Event.TheVariants.{Time, Put, Get, Apply}
-use Rattle.ncc_replay.specs.declared.event.Setup.{Setup}
+use Rattle.ncc_world.specs.declared.setup.Setup.{Setup}
+use Rattle.ncc_world.specs.declared.setup.Kind.TheVariants.{List as IsList}
+use Rattle.ncc_world.specs.declared.event.Event.{Event}
+use Rattle.ncc_world.specs.declared.event.Event.TheVariants.{Time, Put, Get, Apply, Open, Bytes, Close}
+use Rattle.ncc_world.specs.Events.{is_word, AreOf}
+use Rattle.ncc_world.specs.Setting.{IsSetup}
+use Rattle.ncc_replay.specs.declared.status.Cause.{Cause}
+use Rattle.ncc_replay.specs.declared.status.Cause.TheVariants.{UnknownVerb, BadLine, BadBookmark}
 
--- a letter, a digit, `_` or `-`
-abbrev pub is_word_byte : ℕ → Bool
-is_word_byte b = nat_le 97 b && nat_le b 122 || (nat_le 65 b && nat_le b 90 || (nat_le 48 b && nat_le b 57 || (b == 95 || b == 45)))
+-- two digits a byte, in lower case
+abbrev pub hex_digit : ℕ → ℕ
+hex_digit d = if nat_lt d 10 then 48 + d else 87 + d
 
--- 1 to 64 of these
-abbrev pub is_word : List ℕ → Bool
-is_word w = nat_le 1 (length w) && nat_le (length w) 64 && list_all is_word_byte w
+abbrev pub hex_byte : ℕ → List ℕ
+hex_byte b = hex_digit (b / 16) ∷ hex_digit (b % 16) ∷ []
+
+unfoldable pub hex : List ℕ → List ℕ
+hex bytes = flat_map hex_byte bytes
 
 -- the words of bookmarks
 abbrev pub bookmark_words : List Point → List (List ℕ)
@@ -26,18 +35,21 @@ words_of (Time to) = codes "time" ∷ decimal to ∷ []
 words_of (Put member key value bookmarks) = codes "put" ∷ decimal member ∷ key ∷ value ∷ bookmark_words bookmarks
 words_of (Get member key bookmarks) = codes "get" ∷ decimal member ∷ key ∷ bookmark_words bookmarks
 words_of (Apply member count) = codes "apply" ∷ decimal member ∷ decimal count ∷ []
+words_of (Open member) = codes "open" ∷ decimal member ∷ []
+words_of (Bytes conn bytes) = codes "bytes" ∷ decimal conn ∷ hex bytes ∷ []
+words_of (Close conn) = codes "close" ∷ decimal conn ∷ []
 
--- bookmarks of this cluster
-abbrev pub AreOf : ℕ → List Point → Type 0
-AreOf cluster bookmarks = All (λ b. Fits b × (b.cluster ≡ cluster)) bookmarks
-
--- an event whose numbers, words and bookmarks a line of a script can have
+-- an event whose numbers, words, bytes and bookmarks a line of a script can have
 abbrev pub Spellable : ℕ → Event → Type 0
 Spellable cluster (Time to) = to < 2 ^ 64
 Spellable cluster (Put member key value bookmarks) = (member < 2 ^ 8) × (is_word key ≡ true) × (is_word value ≡ true)
     × AreOf cluster bookmarks
 Spellable cluster (Get member key bookmarks) = (member < 2 ^ 8) × (is_word key ≡ true) × AreOf cluster bookmarks
 Spellable cluster (Apply member count) = (member < 2 ^ 8) × (1 ≤ count) × (count < 2 ^ 64)
+Spellable cluster (Open member) = member < 2 ^ 8
+Spellable cluster (Bytes conn bytes) =
+    (conn < 2 ^ 64) × (1 ≤ length bytes) × (length bytes ≤ 1_048_576) × All (λ b. b < 2 ^ 8) bytes
+Spellable cluster (Close conn) = conn < 2 ^ 64
 
 -- in a script of this cluster the line says this event
 abbrev pub Says : ℕ → List ℕ → Event → Type 0
@@ -51,16 +63,12 @@ header = codes "ncc-script 1"
 abbrev pub setup_words : Setup → List (List ℕ)
 setup_words s = codes "cluster" ∷ codes "list" ∷ decimal s.cores ∷ decimal s.replicas ∷ decimal s.cluster ∷ decimal s.wait ∷ []
 
--- the clusters that a script may have
-pub record IsSetup (s : Setup) : Type 0 where
-  pub cores : (1 ≤ s.cores) × (s.cores ≤ 7)
-  pub replicas : s.replicas ≤ 16
-  pub cluster : s.cluster < 2 ^ 64
-  pub wait : s.wait ≤ 86400000
-
--- the line says that the script runs on this cluster
-abbrev pub SaysCluster : List ℕ → Setup → Type 0
-SaysCluster line s = IsSetup s × (line ≡ join_with_byte 32 (setup_words s))
+-- the line says that the script runs on this cluster, whose log may have as many entries as any
+pub record SaysCluster (line : List ℕ) (s : Setup) : Type 0 where
+  pub allowed : IsSetup s
+  pub kind : s.kind ≡ IsList
+  pub limit : s.limit ≡ 2 ^ 24
+  pub words : line ≡ join_with_byte 32 (setup_words s)
 
 -- an empty line, or a comment
 abbrev pub is_skipped : List ℕ → Bool
@@ -73,7 +81,40 @@ first_word line = before_first (λ b. b == 32) line
 
 -- the first words that a line behind the `cluster` line may have
 abbrev pub verbs : List (List ℕ)
-verbs = codes "cluster" ∷ codes "time" ∷ codes "put" ∷ codes "get" ∷ codes "apply" ∷ []
+verbs = codes "cluster" ∷ codes "time" ∷ codes "put" ∷ codes "get" ∷ codes "apply" ∷ codes "open" ∷ codes "bytes" ∷ codes "close" ∷ []
 
 abbrev pub is_verb : List ℕ → Bool
 is_verb word = list_any (bytes_eq word) verbs
+
+-- ---- why a line that says no event is refused
+
+-- a word where a bookmark should stand: some bytes, all of ASCII
+abbrev pub is_bookmark_word : List ℕ → Bool
+is_bookmark_word w = nat_le 1 (length w) && list_all (λ b. nat_lt b 128 && not (b == 32)) w
+
+-- a request, behind whose words bookmarks may stand
+abbrev pub MayPresent : Event → Type 0
+MayPresent (Put member key value bookmarks) = bookmarks ≡ []
+MayPresent (Get member key bookmarks) = bookmarks ≡ []
+MayPresent _ = ⊥
+
+-- the line is right but for the words where bookmarks should stand
+pub record IsRightBut (line : List ℕ) : Type 0 where
+  pub event : Event
+  pub words : List (List ℕ)
+  pub spellable : Spellable 0 event
+  pub presents : MayPresent event
+  pub are_words : list_all is_bookmark_word words ≡ true
+  pub line_is : line ≡ join_with_byte 32 (words_of event ++ words)
+
+-- its first word is no verb; or it is right but for a bookmark; or it has another form
+abbrev pub IsCause : List ℕ → Cause → Type 0
+IsCause line UnknownVerb = is_verb (first_word line) ≡ false
+IsCause line BadBookmark = IsRightBut line
+IsCause line BadLine = (is_verb (first_word line) ≡ true) × (IsRightBut line → ⊥)
+IsCause line _ = ⊥
+
+-- in a script of this cluster the line says no event, for this cause
+pub record SaysNone (cluster : ℕ) (line : List ℕ) (cause : Cause) : Type 0 where
+  pub none : (event : Event) → Says cluster line event → ⊥
+  pub cause_is : IsCause line cause

@@ -1,39 +1,46 @@
 -- How far a script is read: what the lines so far make, whatever the lines behind them are.
-use Rattle.std.specs.Prelude.{◌≡◌, ℕ, not, List, [], ◌∷◌, ◌++◌, filter, Option, None, Some}
+use Rattle.std.specs.Prelude.{◌≡◌, ℕ, List, [], ◌∷◌, ◌++◌, Option, None, Some}
 use Rattle.std.specs.List.{enumerate_from}
-use Rattle.ncc_replay.specs.Run.{Run, run_on}
-use Rattle.ncc_replay.specs.Line.{SaysCluster, header, is_skipped}
-use Rattle.ncc_replay.specs.Script.{Script, lines_of, SayEvents, start_of, run_of}
-use Rattle.ncc_replay.specs.declared.event.Event.{Event}
-use Rattle.ncc_replay.specs.declared.event.Setup.{Setup}
+use Rattle.ncc_world.specs.declared.setup.Setup.{Setup}
+use Rattle.ncc_world.specs.declared.event.Event.{Event}
+use Rattle.ncc_world.specs.Happening.{ListRun}
+use Rattle.ncc_world.specs.World.{Kept, Stands}
+use Rattle.ncc_replay.specs.Script.{Script, End, refused, limited, Lines, lines_of, EventLines, ClusterLines, ScriptLines}
 use Rattle.ncc_replay.specs.declared.script.Progress.{Progress}
 use Rattle.ncc_replay.specs.declared.script.Progress.TheVariants.{Header, Cluster, Events}
+use Rattle.ncc_replay.specs.declared.script.ScriptError.{ScriptError}
+use Rattle.ncc_replay.specs.declared.script.ScriptError.TheVariants.{Bad, Limit, Memory}
 
--- the lines of a text that count, where its first line has this number
-abbrev pub kept_from : ℕ → List ℕ → List (ℕ × List ℕ)
-kept_from number text = filter (λ l. not (is_skipped l.1)) (enumerate_from number (lines_of text))
+-- the lines of a text, where its first line has this number
+abbrev pub lines_from : ℕ → List ℕ → Lines
+lines_from number text = enumerate_from number (lines_of text)
 
--- behind these lines the rest is to come, and the run stands so
-pub record Reached (all rest : List (ℕ × List ℕ)) (cluster : ℕ) (run : Option Run) : Type 0 where
-  pub first : ℕ × List ℕ
-  pub second : ℕ × List ℕ
-  pub front : List (ℕ × List ℕ)
+-- so many lines were events, the world stands for their run, and the lines that are left go on from there
+pub record Reached (all rest : Lines) (count : ℕ) (world : Kept) : Type 0 where
   pub setup : Setup
+  pub run : ListRun
   pub done : List (ℕ × Event)
-  pub whole : all ≡ first ∷ second ∷ (front ++ rest)
-  pub is_header : first.1 ≡ header
-  pub says : SaysCluster second.1 setup
-  pub cluster_is : cluster ≡ setup.cluster
-  pub said : SayEvents setup.cluster (start_of setup) front done
-  pub run_is : run ≡ Some (run_on done (start_of setup))
+  pub setup_is : world.setup ≡ setup
+  pub stands : Stands world run
+  pub goes_on : (es : List (ℕ × Event)) (t : ListRun) (end : End) → EventLines setup count run rest es t end
+      → ScriptLines all (record { setup = Some setup; events = done ++ es }) (Some t) end
 
--- of all the lines that count these are left
-abbrev pub Stands : List (ℕ × List ℕ) → List (ℕ × List ℕ) → Progress → Type 0
-Stands all rest Header = rest ≡ all
-Stands all rest Cluster = (first : ℕ × List ℕ) × (all ≡ first ∷ rest) × (first.1 ≡ header)
-Stands all rest (Events cluster world) = Reached all rest cluster world
+-- of all the lines these are left, and what they are makes of all lines what it makes
+abbrev pub GoesOn : Lines → Lines → Progress → Type 0
+GoesOn all rest Header = (s : Script) (t : Option ListRun) (end : End) → ScriptLines rest s t end → ScriptLines all s t end
+GoesOn all rest Cluster = (s : Script) (t : Option ListRun) (end : End) → ClusterLines rest s t end → ScriptLines all s t end
+GoesOn all rest (Events count world) = Reached all rest count world
+
+-- all lines end so
+abbrev pub EndsAt : Lines → End → Type 0
+EndsAt all end = (s : Script) × (t : Option ListRun) × ScriptLines all s t end
+
+abbrev pub EndsSo : Lines → ScriptError → Type 0
+EndsSo all (Bad line cause) = EndsAt all (refused line cause)
+EndsSo all (Limit which) = EndsAt all (limited which)
+EndsSo all Memory = Unit {0}
 
 -- the world stands for the run of the script, where the script has a cluster
-abbrev pub RunIs : Option (Option Run) → Script → Type 0
-RunIs None s = s ≡ record { setup = None; events = [] }
-RunIs (Some world) s = (setup : Setup) × (s.setup ≡ Some setup) × (world ≡ Some (run_of s))
+abbrev pub IsRunOf : Option Kept → Script → Option ListRun → Type 0
+IsRunOf None s t = (s.setup ≡ None) × (t ≡ None)
+IsRunOf (Some world) s t = (r : ListRun) × (s.setup ≡ Some world.setup) × (t ≡ Some r) × Stands world r

@@ -1,14 +1,14 @@
 -- What a replay reads and writes.
 use Rattle.std.specs.Prelude.{◌≡◌, ◌⊎◌, ℕ, ◌<◌, ◌≤◌, List, [], ◌∷◌, length, codes, Option, None, Some}
 use Rattle.std.specs.Io.KnownBytes.{Consumes, IsAtEnd}
-use Rattle.ncc_replay.specs.Run.{Run}
-use Rattle.ncc_replay.specs.Script.{Script, IsScript, IsNoScript, start_of}
-use Rattle.ncc_replay.specs.declared.event.Event.{Event}
-use Rattle.ncc_replay.specs.declared.event.Setup.{Setup}
+use Rattle.ncc_world.specs.declared.setup.Setup.{Setup}
+use Rattle.ncc_world.specs.declared.event.Event.{Event}
+use Rattle.ncc_world.specs.declared.error.Which.{Which}
+use Rattle.ncc_world.specs.declared.error.Which.TheVariants.{Script as ScriptLimit}
+use Rattle.ncc_world.specs.Happening.{ListRun}
+use Rattle.ncc_replay.specs.Script.{Script, End, whole, refused, limited, IsText}
 use Rattle.ncc_replay.specs.declared.status.Status.{Status}
-use Rattle.ncc_replay.specs.declared.status.Status.TheVariants.{ReadFault, WriteFault, BadScript, Limit, Memory}
-use Rattle.ncc_replay.specs.declared.status.Which.TheVariants.{Script as LimitScript}
-use Rattle.ncc_replay.specs.declared.status.Cause.{Cause}
+use Rattle.ncc_replay.specs.declared.status.Status.TheVariants.{Done, ReadFault, WriteFault, BadScript, Limit, Memory}
 use Rattle.ncc_replay.specs.declared.input.ReadError.{ReadError}
 use Rattle.ncc_replay.specs.declared.input.ReadError.TheVariants.{Fault, TooLong}
 use Rattle.ncc_replay.specs.declared.input.ReadError.TheVariants as reading
@@ -18,7 +18,7 @@ use Rattle.ncc_replay.specs.declared.script.ScriptError.TheVariants as refusing
 
 -- the most bytes that a script may have
 abbrev pub most_bytes : ℕ
-most_bytes = 268435456
+most_bytes = 268_435_456
 
 -- the words of a command line that runs a script
 abbrev pub run_words : List (List ℕ)
@@ -30,22 +30,33 @@ pub record ReadsAll (old new : Option (List ℕ)) (text : List ℕ) : Type 0 whe
   pub ended : IsAtEnd new
   pub within : length text ≤ most_bytes
 
--- the whole input was this script
-abbrev pub Reads : Option (List ℕ) → Option (List ℕ) → Script → Type 0
-Reads old new s = (text : List ℕ) × ReadsAll old new text × IsScript text s
+-- the whole input was a text that says this script, whose run stands so at its end, and ends so
+pub record ReadsTo (old new : Option (List ℕ)) (s : Script) (t : Option ListRun) (end : End) : Type 0 where
+  pub text : List ℕ
+  pub reads : ReadsAll old new text
+  pub is_text : IsText text s t end
 
--- the whole input was no script: its first line that is not accepted
-abbrev pub ReadsNone : Option (List ℕ) → Option (List ℕ) → ℕ → Cause → Type 0
-ReadsNone old new line cause = (text : List ℕ) × ReadsAll old new text × IsNoScript text line cause
+-- it was a script as a whole
+abbrev pub Reads : Option (List ℕ) → Option (List ℕ) → Script → Option ListRun → Type 0
+Reads old new s t = ReadsTo old new s t whole
+
+-- it ends so
+abbrev pub ReadsUpTo : Option (List ℕ) → Option (List ℕ) → End → Type 0
+ReadsUpTo old new end = (s : Script) × (t : Option ListRun) × ReadsTo old new s t end
 
 -- the source had more bytes left than a script may have, where it tells them
 abbrev pub IsTooLong : Option (List ℕ) → Type 0
 IsTooLong None = Unit {0}
 IsTooLong (Some text) = most_bytes < length text
 
--- it holds of the run of the script, where the script has a cluster
-abbrev pub OfRun : (Run → List (ℕ × Event) → Type 0) → Script → Type 0
-OfRun P s = (setup : Setup) → s.setup ≡ Some setup → P (start_of setup) s.events
+-- the input passes this limit: as a whole, or at a line
+abbrev pub Passes : Option (List ℕ) → Option (List ℕ) → Which → Type 0
+Passes old new ScriptLimit = IsTooLong old
+Passes old new which = ReadsUpTo old new (limited which)
+
+-- it holds of the script's cluster, its events and their run, where the script has a cluster
+abbrev pub OfRun : (Setup → List (ℕ × Event) → ListRun → Type 0) → Script → Option ListRun → Type 0
+OfRun P s t = (setup : Setup) (r : ListRun) → s.setup ≡ Some setup → t ≡ Some r → P setup s.events r
 
 -- the words are right, and the source has exactly these bytes left
 pub record IsGiven (words : List (List ℕ)) (left : Option (List ℕ)) (text : List ℕ) : Type 0 where
@@ -55,13 +66,20 @@ pub record IsGiven (words : List (List ℕ)) (left : Option (List ℕ)) (text : 
 -- how a replay ends whose input is not read
 abbrev pub status_of_read_error : ReadError → Status
 status_of_read_error Fault = ReadFault
-status_of_read_error TooLong = Limit LimitScript
+status_of_read_error TooLong = Limit ScriptLimit
 status_of_read_error reading.Memory = Memory
 
 -- how a replay ends whose input gives no run
 abbrev pub status_of_script_error : ScriptError → Status
 status_of_script_error (Bad line cause) = BadScript line cause
+status_of_script_error (refusing.Limit which) = Limit which
 status_of_script_error refusing.Memory = Memory
+
+-- how a replay of a text ends
+abbrev pub status_of : End → Status
+status_of whole = Done
+status_of (refused line cause) = BadScript line cause
+status_of (limited which) = Limit which
 
 -- it ends so, unless source or sink fail or memory runs out
 abbrev pub MayEnd : Status → Status → Type 0

@@ -1,100 +1,145 @@
--- A script: its lines, the events that they say, and its first line that is not accepted.
-use Rattle.std.specs.Prelude.{◌≡◌, ◌≢◌, ◌⊎◌, ℕ, ◌==◌, nat_lt, nat_le, ◌&&◌, not, Bool, List, [], ◌∷◌, length, filter, Option, None}
-use Rattle.std.specs.Prelude.{Some, if◌then◌else◌}
+-- A script: its lines, one after another, the events that they say, the run of these, and how it ends: as a script, at the first line that
+-- is refused, or at the first that passes a limit.
+use Rattle.std.specs.Prelude.{◌≡◌, ◌≢◌, ℕ, ◌+◌, ◌<◌, ◌≤◌, ◌==◌, nat_lt, Bool, true, false, List, [], ◌∷◌, length, codes, Option, None, Some}
+use Rattle.std.specs.Prelude.{if◌then◌else◌}
 use Rattle.std.specs.List.{onto_first, enumerate_from}
-use Rattle.ncc_replay.specs.Run.{Run, begun, happens, run_on}
-use Rattle.ncc_replay.specs.Line.{Says, SaysCluster, header, is_skipped, first_word, is_verb}
-use Rattle.ncc_replay.specs.declared.event.Event.{Event}
-use Rattle.ncc_replay.specs.declared.event.Event.TheVariants.{Time, Put, Get, Apply}
-use Rattle.ncc_replay.specs.declared.event.Setup.{Setup}
-use Rattle.ncc_replay.specs.declared.fact.WorldError.{WorldError}
-use Rattle.ncc_replay.specs.declared.fact.WorldError.TheVariants.{NoMember, WrongRole, BackInTime}
+use Rattle.ncc_clients.specs.Turn.{Settles}
+use Rattle.ncc_world.specs.declared.setup.Setup.{Setup}
+use Rattle.ncc_world.specs.declared.event.Event.{Event}
+use Rattle.ncc_world.specs.declared.error.Which.{Which}
+use Rattle.ncc_world.specs.declared.error.Which.TheVariants.{Line as LineLimit, Events as EventsLimit}
+use Rattle.ncc_world.specs.declared.error.WorldError.{WorldError}
+use Rattle.ncc_world.specs.declared.error.WorldError.TheVariants as w
+use Rattle.ncc_world.specs.Happening.{ListRun, start_of, refusal, Happens}
+use Rattle.ncc_replay.specs.Line.{Says, SaysNone, SaysCluster, header, is_skipped, first_word}
 use Rattle.ncc_replay.specs.declared.status.Cause.{Cause}
-use Rattle.ncc_replay.specs.declared.status.Cause.TheVariants.{UnknownVerb, BadLine}
+use Rattle.ncc_replay.specs.declared.status.Cause.TheVariants.{NoHeader, NoCluster, BadLine, WrongWorld, NoMember, NoConn, NoMessage}
+use Rattle.ncc_replay.specs.declared.status.Cause.TheVariants.{NoSession, WrongRole, BackInTime, Busy}
 
 -- the lines of a text: each ends with LF, which the last may lack
 unfoldable pub lines_of : List ℕ → List (List ℕ)
 lines_of [] = []
 lines_of (b ∷ bs) = if b == 10 then [] ∷ lines_of bs else onto_first b (lines_of bs)
 
--- the lines that count, each with its number, from 1
-abbrev pub kept_lines : List ℕ → List (ℕ × List ℕ)
-kept_lines text = filter (λ l. not (is_skipped l.1)) (enumerate_from 1 (lines_of text))
+-- with their numbers, from 1
+abbrev pub Lines : Type 0
+Lines = List (ℕ × List ℕ)
 
-abbrev pub is_member : Run → ℕ → Bool
-is_member r member = nat_le 1 member && nat_le member (length r.applied)
+abbrev pub numbered : List ℕ → Lines
+numbered text = enumerate_from 1 (lines_of text)
 
--- why a run refuses an event, if it does
-abbrev pub refusal : Run → Event → Option WorldError
-refusal r (Time to) = if nat_lt to r.now then Some BackInTime else None
-refusal r (Put member key value bookmarks) = if is_member r member then None else Some NoMember
-refusal r (Get member key bookmarks) = if is_member r member then None else Some NoMember
-refusal r (Apply member count) = if is_member r member then (if member == 1 then Some WrongRole else None) else Some NoMember
+-- ---- limits
 
--- in the run so far, the line is this event, and is accepted
-pub record Accepted (cluster : ℕ) (r : Run) (line : List ℕ) (event : Event) : Type 0 where
-  pub says : Says cluster line event
-  pub allowed : refusal r event ≡ None
+-- the most bytes of a line
+abbrev pub max_line : ℕ
+max_line = 2_200_000
 
--- the cause of a line behind the `cluster` line that is no accepted event
-abbrev pub cause_of : List ℕ → Cause
-cause_of line = if is_verb (first_word line) then BadLine else UnknownVerb
+-- the most lines behind the `cluster` line that are not skipped
+abbrev pub max_events : ℕ
+max_events = 1_000_000
 
--- the lines are these events, each accepted in the run that those before it lead to
-abbrev pub SayEvents : ℕ → Run → List (ℕ × List ℕ) → List (ℕ × Event) → Type 0
-SayEvents cluster r [] [] = Unit {0}
-SayEvents cluster r [] (e ∷ es) = ⊥
-SayEvents cluster r (l ∷ ls) [] = ⊥
-SayEvents cluster r (l ∷ ls) (e ∷ es) = (e.0 ≡ l.0) × Accepted cluster r l.1 e.1 × SayEvents cluster (happens l.0 e.1 r) ls es
+abbrev pub is_long : List ℕ → Bool
+is_long line = nat_lt max_line (length line)
 
--- among these lines the first that is not accepted has this number and this cause
-abbrev pub RefuseEvent : ℕ → Run → List (ℕ × List ℕ) → ℕ → Cause → Type 0
-RefuseEvent cluster r [] line cause = ⊥
-RefuseEvent cluster r (l ∷ ls) line cause =
-    (((event : Event) → ¬ (Accepted cluster r l.1 event)) × (line ≡ l.0) × (cause ≡ cause_of l.1))
-    ⊎ ((event : Event) × Accepted cluster r l.1 event × RefuseEvent cluster (happens l.0 event r) ls line cause)
+-- a line that is looked at: it is not too long, and is neither empty nor a comment
+pub record Counts (line : List ℕ) : Type 0 where
+  pub short : is_long line ≡ false
+  pub kept : is_skipped line ≡ false
 
--- what a script says: the cluster, unless it ends before that, and the events with their lines
+-- ---- how a script ends
+
+pub data End : Type 0 where
+  whole : End
+  -- at this line, which is refused for this cause
+  refused : ℕ → Cause → End
+  -- at a line that passes this limit
+  limited : Which → End
+
+-- what a script says: its cluster, unless it ends before that, and its events with their lines
 pub record Script : Type 0 where
   pub setup : Option Setup
   pub events : List (ℕ × Event)
 
--- where the run of a cluster begins
-abbrev pub start_of : Setup → Run
-start_of s = begun s.cores s.replicas s.wait
+-- why a world refuses an event
+abbrev pub cause_of : WorldError → Option Cause
+cause_of w.NoMember = Some NoMember
+cause_of w.NoConn = Some NoConn
+cause_of w.NoMessage = Some NoMessage
+cause_of w.NoSession = Some NoSession
+cause_of w.BackInTime = Some BackInTime
+cause_of w.WrongWorld = Some WrongWorld
+cause_of w.WrongRole = Some WrongRole
+cause_of w.Busy = Some Busy
+cause_of (w.Limit which) = None
+cause_of w.Memory = None
 
--- the lines that count make this script
-abbrev pub MakeScript : List (ℕ × List ℕ) → Script → Type 0
-MakeScript [] s = s ≡ record { setup = None; events = [] }
-MakeScript (h ∷ []) s = (h.1 ≡ header) × (s ≡ record { setup = None; events = [] })
-MakeScript (h ∷ c ∷ ls) s = (h.1 ≡ header) × (setup : Setup) × (s.setup ≡ Some setup) × SaysCluster c.1 setup
-    × SayEvents setup.cluster (start_of setup) ls s.events
+-- the world refuses the event for this cause
+pub record IsRefusedFor (r : ListRun) (event : Event) (cause : Cause) : Type 0 where
+  pub error : WorldError
+  pub refuses : refusal r event ≡ Some error
+  pub cause_is : cause_of error ≡ Some cause
 
--- a text that is a script, and which
-abbrev pub IsScript : List ℕ → Script → Type 0
-IsScript text s = MakeScript (kept_lines text) s
+-- the line says this event, and the run so far allows it
+pub record Accepted (s : Setup) (r : ListRun) (line : List ℕ) (event : Event) : Type 0 where
+  pub counts : Counts line
+  pub says : Says s.cluster line event
+  pub allowed : refusal r event ≡ None
 
--- the first of the lines that is not accepted has this number and this cause
-abbrev pub RefuseLine : List (ℕ × List ℕ) → ℕ → Cause → Type 0
-RefuseLine [] line cause = ⊥
-RefuseLine (h ∷ []) line cause = (h.1 ≢ header) × (line ≡ h.0) × (cause ≡ BadLine)
-RefuseLine (h ∷ c ∷ ls) line cause =
-    ((h.1 ≢ header) × (line ≡ h.0) × (cause ≡ BadLine))
-    ⊎ (((h.1 ≡ header) × ((setup : Setup) → ¬ (SaysCluster c.1 setup)) × (line ≡ c.0) × (cause ≡ BadLine))
-    ⊎ ((h.1 ≡ header) × (setup : Setup) × SaysCluster c.1 setup × RefuseEvent setup.cluster (start_of setup) ls line cause))
+-- ---- the lines behind the `cluster` line, where so many were events and the run stands so: the events that they say, and how the run
+-- stands where they end
+pub data EventLines (s : Setup) : ℕ → ListRun → Lines → List (ℕ × Event) → ListRun → End → Type 0 where
+  none_left : (n : ℕ) (r : ListRun) → EventLines s n r [] [] r whole
+  long : (n : ℕ) (r : ListRun) (number : ℕ) (line : List ℕ) (ls : Lines) → is_long line ≡ true
+      → EventLines s n r ((number, line) ∷ ls) [] r (limited LineLimit)
+  skipped : (n : ℕ) (r : ListRun) (number : ℕ) (line : List ℕ) (ls : Lines) (es : List (ℕ × Event)) (t : ListRun) (end : End)
+      → is_long line ≡ false → is_skipped line ≡ true → EventLines s n r ls es t end → EventLines s n r ((number, line) ∷ ls) es t end
+  says_none : (n : ℕ) (r : ListRun) (number : ℕ) (line : List ℕ) (ls : Lines) (cause : Cause) → Counts line → SaysNone s.cluster line cause
+      → EventLines s n r ((number, line) ∷ ls) [] r (refused number cause)
+  not_allowed : (n : ℕ) (r : ListRun) (number : ℕ) (line : List ℕ) (ls : Lines) (event : Event) (cause : Cause) → Counts line
+      → Says s.cluster line event → IsRefusedFor r event cause → EventLines s n r ((number, line) ∷ ls) [] r (refused number cause)
+  many : (n : ℕ) (r : ListRun) (number : ℕ) (line : List ℕ) (ls : Lines) (event : Event) → Accepted s r line event → max_events ≤ n
+      → EventLines s n r ((number, line) ∷ ls) [] r (limited EventsLimit)
+  happens : (n : ℕ) (r m : ListRun) (number : ℕ) (line : List ℕ) (ls : Lines) (event : Event) (es : List (ℕ × Event)) (t : ListRun)
+      (end : End)
+      → Accepted s r line event → n < max_events → Happens s number event r m → EventLines s (n + 1) m ls es t end
+      → EventLines s n r ((number, line) ∷ ls) ((number, event) ∷ es) t end
 
--- a text that is no script: its first line that is not accepted
-abbrev pub IsNoScript : List ℕ → ℕ → Cause → Type 0
-IsNoScript text line cause = RefuseLine (kept_lines text) line cause
+-- the line says no cluster: another word stands in front, or the words are none of a cluster
+abbrev pub IsNoCluster : List ℕ → Cause → Type 0
+IsNoCluster line NoCluster = first_word line ≢ codes "cluster"
+IsNoCluster line BadLine = (first_word line ≡ codes "cluster") × ((s : Setup) → SaysCluster line s → ⊥)
+IsNoCluster line _ = ⊥
 
--- a run without members
-abbrev pub nobody : Run
-nobody = begun 0 0 0
+-- the lines behind the header
+pub data ClusterLines : Lines → Script → Option ListRun → End → Type 0 where
+  none_left : ClusterLines [] (record { setup = None; events = [] }) None whole
+  long : (number : ℕ) (line : List ℕ) (ls : Lines) → is_long line ≡ true
+      → ClusterLines ((number, line) ∷ ls) (record { setup = None; events = [] }) None (limited LineLimit)
+  skipped : (number : ℕ) (line : List ℕ) (ls : Lines) (s : Script) (t : Option ListRun) (end : End)
+      → is_long line ≡ false → is_skipped line ≡ true → ClusterLines ls s t end → ClusterLines ((number, line) ∷ ls) s t end
+  says_none : (number : ℕ) (line : List ℕ) (ls : Lines) (cause : Cause) → Counts line → IsNoCluster line cause
+      → ClusterLines ((number, line) ∷ ls) (record { setup = None; events = [] }) None (refused number cause)
+  says : (number : ℕ) (line : List ℕ) (ls : Lines) (setup : Setup) (es : List (ℕ × Event)) (t : ListRun) (end : End) → Counts line
+      → SaysCluster line setup → EventLines setup 0 (start_of setup) ls es t end
+      → ClusterLines ((number, line) ∷ ls) (record { setup = Some setup; events = es }) (Some t) end
 
-abbrev pub run_by : Option Setup → List (ℕ × Event) → Run
-run_by None events = nobody
-run_by (Some setup) events = run_on events (start_of setup)
+-- all lines
+pub data ScriptLines : Lines → Script → Option ListRun → End → Type 0 where
+  none_left : ScriptLines [] (record { setup = None; events = [] }) None whole
+  long : (number : ℕ) (line : List ℕ) (ls : Lines) → is_long line ≡ true
+      → ScriptLines ((number, line) ∷ ls) (record { setup = None; events = [] }) None (limited LineLimit)
+  skipped : (number : ℕ) (line : List ℕ) (ls : Lines) (s : Script) (t : Option ListRun) (end : End)
+      → is_long line ≡ false → is_skipped line ≡ true → ScriptLines ls s t end → ScriptLines ((number, line) ∷ ls) s t end
+  other : (number : ℕ) (line : List ℕ) (ls : Lines) → Counts line → line ≢ header
+      → ScriptLines ((number, line) ∷ ls) (record { setup = None; events = [] }) None (refused number NoHeader)
+  is_header : (number : ℕ) (line : List ℕ) (ls : Lines) (s : Script) (t : Option ListRun) (end : End) → Counts line → line ≡ header
+      → ClusterLines ls s t end → ScriptLines ((number, line) ∷ ls) s t end
 
--- the run of a script
-abbrev pub run_of : Script → Run
-run_of s = run_by s.setup s.events
+-- the text says this script, whose run stands so at its end, and ends so
+abbrev pub IsText : List ℕ → Script → Option ListRun → End → Type 0
+IsText text s t end = ScriptLines (numbered text) s t end
+
+-- each text ends in one way
+abbrev pub OneEnd : Type 0
+OneEnd = (text : List ℕ) (s x : Script) (t u : Option ListRun) (end other : End) → IsText text s t end → IsText text x u other
+    → (end ≡ other) × (s ≡ x) × (t ≡ u)

@@ -3,8 +3,8 @@ use Rattle.std.specs.Prelude.{ℕ, List, [], ◌++◌, codes, decimal}
 use Rattle.ncc_replay.specs.declared.status.Cause.{Cause}
 use Rattle.ncc_replay.specs.declared.status.Cause.TheVariants.{NoHeader, NoCluster, UnknownVerb, BadLine, BadBookmark, WrongWorld}
 use Rattle.ncc_replay.specs.declared.status.Cause.TheVariants.{NoMember, NoConn, NoMessage, NoSession, WrongRole, BackInTime, Busy}
-use Rattle.ncc_replay.specs.declared.status.Which.{Which}
-use Rattle.ncc_replay.specs.declared.status.Which.TheVariants.{Events, Messages, MessageBytes, Line, Script}
+use Rattle.ncc_world.specs.declared.error.Which.{Which}
+use Rattle.ncc_world.specs.declared.error.Which.TheVariants.{Events, Messages, MessageBytes, Line, Script}
 use Rattle.ncc_replay.specs.declared.status.Status.{Status}
 use Rattle.ncc_replay.specs.declared.status.Status.TheVariants.{Done, BadWords, BadScript, ReadFault, WriteFault, Limit, Memory}
 

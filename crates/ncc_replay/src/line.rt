@@ -1,22 +1,25 @@
 //! The lines of a script, read word by word.
 
-ghost use Rattle.std.specs.Prelude.{◌≡◌, ◌≢◌, ◌<◌, ◌≤◌, ◌↔◌, ◌^◌, ◌==◌, ℕ, true, false, IsTrue, List, [], ◌∷◌, position, codes, decimal};
-ghost use Rattle.std.specs.Prelude.{Some, None, IfSome, IfNone, Ok, IfOk, IsErrOf};
+ghost use Rattle.std.specs.Prelude.{◌≡◌, ◌≢◌, ◌<◌, ◌≤◌, ◌↔◌, ◌^◌, ◌==◌, ℕ, true, false, not, ◌&&◌, nat_lt, IsTrue, List, [], ◌∷◌, ◌++◌};
+ghost use Rattle.std.specs.Prelude.{position, codes, decimal, Some, None, IfSome, IfNone, Ok, Err, IfOk, IsErrOf};
 ghost use Rattle.std.specs.List.{list_all};
 ghost use Rattle.ncc_bookmark.specs.Point.{Point};
-ghost use Rattle.ncc_replay.specs.Line.{Says, SaysCluster, first_word, is_skipped, is_verb, is_word, is_word_byte};
-ghost use Rattle.ncc_replay.specs.Reading.{words_between, words_in, verb_word, AreWords, AreBad, IsBookmark, AreBookmarks, AreSetup};
-ghost use Rattle.ncc_replay.specs.Script.{cause_of};
+ghost use Rattle.ncc_replay.specs.Line.{Says, SaysNone, SaysCluster, first_word, hex, hex_digit, is_bookmark_word, is_skipped, is_verb};
+ghost use Rattle.ncc_replay.specs.Reading.{words_between, words_in, verb_word, AreWords, AreBad, IsBookmark, AreBookmarks};
+ghost use Rattle.ncc_replay.specs.Reading.{AreNoBookmarks, AreSetup};
+ghost use Rattle.ncc_replay.specs.Reading.{IsHex};
+ghost use Rattle.ncc_replay.specs.Script.{IsNoCluster};
 ghost use Rattle.ncc_replay.specs.declared.status.Cause.{Cause};
-ghost use Rattle.ncc_replay.specs.declared.status.Cause.TheVariants.{BadLine};
-ghost use Rattle.ncc_replay.specs.declared.event.Event.{Event};
-ghost use Rattle.ncc_replay.specs.declared.event.Setup.{Setup};
+ghost use Rattle.ncc_replay.specs.declared.status.Cause.TheVariants.{BadLine, BadBookmark};
+ghost use Rattle.ncc_world.specs.Events.{is_word, is_word_byte};
+ghost use Rattle.ncc_world.specs.declared.event.Event.{Event};
+ghost use Rattle.ncc_world.specs.declared.setup.Setup.{Setup};
 
-use crate::event::{Bookmarks, Event, Setup};
 use crate::status::Cause;
 use itoa::Buffer;
 use ncc_bookmark::{Bookmark, BookmarkError};
-use ncc_pack::Text;
+use ncc_pack::{Bytes, Text};
+use ncc_world::{Bookmarks, Event, Kind, Setup};
 use std::alloc::{AllocError, Global};
 use thiserror::Error;
 
@@ -43,6 +46,12 @@ impl From<AllocError> for LineError {
 
 const BAD_LINE: LineError = LineError::Cause(Cause::BadLine);
 
+// The most digits that the bytes of a line may have, two for each byte.
+const MAX_DIGITS: usize = 2_097_152;
+
+// The most entries of a log in a script's cluster.
+const MAX_ENTRIES: u64 = 16_777_216;
+
 // The first words that a line behind the `cluster` line may have.
 #[derive(Clone, Copy)]
 enum Verb {
@@ -51,6 +60,9 @@ enum Verb {
     Put,
     Get,
     Apply,
+    Open,
+    Bytes,
+    Close,
 }
 
 // A line with another first word is refused before anything else is looked at.
@@ -64,6 +76,9 @@ fn verb_of(word: &[u8]) -> Option<Verb>
         b"put" => Some(Verb::Put),
         b"get" => Some(Verb::Get),
         b"apply" => Some(Verb::Apply),
+        b"open" => Some(Verb::Open),
+        b"bytes" => Some(Verb::Bytes),
+        b"close" => Some(Verb::Close),
         _ => None,
     }
 }
@@ -139,7 +154,7 @@ fn are_word_bytes(word: &[u8]) -> bool
 }
 
 // The length is tested first, since a word may be as long as the line.
-fn is_word(word: &[u8]) -> bool
+pub(crate) fn is_word(word: &[u8]) -> bool
     ensures { result ≡ is_word word.now }
 {
     !word.is_empty() && word.len() <= 64 && are_word_bytes(word)
@@ -170,26 +185,60 @@ fn next_name(rest: Option<&[u8]>) -> Option<(&str, Option<&[u8]>)>
     Some((name, rest))
 }
 
+// A byte that a word of a bookmark may have.
+fn is_bookmark_byte(b: u8) -> bool
+    ensures { result ≡ (nat_lt b 128 && not (b == 32)) }
+{
+    b < 128 && b != b' '
+}
+
+fn are_bookmark_bytes(word: &[u8]) -> bool
+    ensures { result ≡ list_all (λ b. nat_lt b 128 && not (b == 32)) word.now }
+{
+    word.iter().all(|b| is_bookmark_byte(*b))
+}
+
+// A word where a bookmark may stand.
+fn is_bookmark_word(word: &[u8]) -> bool
+    ensures { result ≡ is_bookmark_word word.now }
+{
+    !word.is_empty() && are_bookmark_bytes(word)
+}
+
+fn are_bookmark_words(words: Option<&[u8]>) -> bool
+    ensures { result ≡ list_all is_bookmark_word (words_in words.entry) }
+{
+    let mut rest = words;
+    while let Some(text) = rest {
+        let (word, more) = cut(text);
+        if !is_bookmark_word(word) {
+            return false;
+        }
+        rest = more;
+    }
+    true
+}
+
 fn bookmark(alloc: Global, cluster: u64, word: &[u8]) -> Result<Bookmark, LineError>
     ensures ok { IfOk result (λ b. IsBookmark cluster word.now b) }
     ensures bad { (cause : Cause) → IsErrOf result (LineError.Cause cause)
-        → (cause ≡ BadLine) × ((b : Point) → ¬ (IsBookmark cluster word.now b)) }
+        → (cause ≡ BadBookmark) × ((b : Point) → ¬ (IsBookmark cluster word.now b)) }
 {
     let Ok(text) = str::from_utf8(word) else {
-        return Err(BAD_LINE);
+        return Err(LineError::Cause(Cause::BadBookmark));
     };
     match Bookmark::read(alloc, text, cluster) {
         Ok(bookmark) => Ok(bookmark),
         Err(BookmarkError::Memory) => Err(LineError::Memory),
-        Err(_) => Err(BAD_LINE),
+        Err(_) => Err(LineError::Cause(Cause::BadBookmark)),
     }
 }
 
-// Words that are all bookmarks.
-fn bookmarks(alloc: Global, cluster: u64, words: Option<&[u8]>) -> Result<Bookmarks, LineError>
+// The bookmarks of words of their form.
+fn read_bookmarks(alloc: Global, cluster: u64, words: Option<&[u8]>) -> Result<Bookmarks, LineError>
     ensures ok { IfOk result (λ b. AreBookmarks cluster (words_in words.entry) b) }
     ensures bad { (cause : Cause) → IsErrOf result (LineError.Cause cause)
-        → (cause ≡ BadLine) × ((b : List Point) → ¬ (AreBookmarks cluster (words_in words.entry) b)) }
+        → (cause ≡ BadBookmark) × ((b : List Point) → ¬ (AreBookmarks cluster (words_in words.entry) b)) }
 {
     let mut read = Bookmarks::new(alloc);
     let mut rest = words;
@@ -204,10 +253,63 @@ fn bookmarks(alloc: Global, cluster: u64, words: Option<&[u8]>) -> Result<Bookma
     Ok(read)
 }
 
+// Words that are all bookmarks. A word of another form stands before one that is no bookmark of the cluster, wherever they are.
+fn bookmarks(alloc: Global, cluster: u64, words: Option<&[u8]>) -> Result<Bookmarks, LineError>
+    ensures ok { IfOk result (λ b. AreBookmarks cluster (words_in words.entry) b) }
+    ensures bad { (cause : Cause) → IsErrOf result (LineError.Cause cause) → AreNoBookmarks cluster (words_in words.entry) cause }
+{
+    if !are_bookmark_words(words) {
+        return Err(BAD_LINE);
+    }
+    read_bookmarks(alloc, cluster, words)
+}
+
+// The number that a digit stands for.
+fn digit(b: u8) -> Option<u8>
+    ensures some { IfSome result (λ d. (d < 16) × (b ≡ hex_digit d)) }
+    ensures none { IfNone result ((d : ℕ) → d < 16 → b ≢ hex_digit d) }
+{
+    match b {
+        b'0'..=b'9' => Some(b - b'0'),
+        b'a'..=b'f' => Some(b - 87),
+        _ => None,
+    }
+}
+
+// The byte that two digits stand for.
+fn byte(high: u8, low: u8) -> Option<u8>
+    ensures some { IfSome result (λ b. (b < 2 ^ 8) × (high ∷ low ∷ [] ≡ hex (b ∷ []))) }
+    ensures none { IfNone result ((d e : ℕ) → d < 16 → e < 16 → high ≡ hex_digit d → low ≢ hex_digit e) }
+{
+    let high = digit(high)?;
+    let low = digit(low)?;
+    Some(high * 16 + low)
+}
+
+// The bytes that a word stands for, two digits each.
+fn hex_bytes(alloc: Global, word: &[u8]) -> Result<Bytes, LineError>
+    ensures ok { IfOk result (λ b. IsHex word.now b) }
+    ensures bad { (cause : Cause) → IsErrOf result (LineError.Cause cause) → (cause ≡ BadLine) × ((b : List ℕ) → ¬ (IsHex word.now b)) }
+{
+    let mut bytes = Bytes::new(alloc);
+    let mut rest = word;
+    while let [high, low, more @ ..] = rest {
+        match byte(*high, *low) {
+            Some(byte) => bytes.push(byte)?,
+            None => return Err(BAD_LINE),
+        }
+        rest = more;
+    }
+    if rest.is_empty() {
+        Ok(bytes)
+    } else {
+        Err(BAD_LINE)
+    }
+}
+
 fn time(rest: Option<&[u8]>) -> Option<Event>
     ensures some { IfSome result (λ e. (cluster : ℕ) → AreWords cluster (codes "time" ∷ words_in rest.entry) e) }
-    ensures none { IfNone result ((cluster : ℕ) (e : Event)
-        → ¬ (AreWords cluster (codes "time" ∷ words_in rest.entry) e)) }
+    ensures none { IfNone result ((cluster : ℕ) → AreBad cluster (codes "time" ∷ words_in rest.entry) BadLine) }
 {
     let (to, rest) = next_number(rest, u64::MAX)?;
     if rest.is_some() {
@@ -269,8 +371,7 @@ fn get(alloc: Global, cluster: u64, rest: Option<&[u8]>) -> Result<Event, LineEr
 
 fn apply(rest: Option<&[u8]>) -> Option<Event>
     ensures some { IfSome result (λ e. (cluster : ℕ) → AreWords cluster (codes "apply" ∷ words_in rest.entry) e) }
-    ensures none { IfNone result ((cluster : ℕ) (e : Event)
-        → ¬ (AreWords cluster (codes "apply" ∷ words_in rest.entry) e)) }
+    ensures none { IfNone result ((cluster : ℕ) → AreBad cluster (codes "apply" ∷ words_in rest.entry) BadLine) }
 {
     let (member, rest) = next_number(rest, 255)?;
     let (count, rest) = next_number(rest, u64::MAX)?;
@@ -281,6 +382,51 @@ fn apply(rest: Option<&[u8]>) -> Option<Event>
         member: member as u8,
         count,
     })
+}
+
+fn open(rest: Option<&[u8]>) -> Option<Event>
+    ensures some { IfSome result (λ e. (cluster : ℕ) → AreWords cluster (codes "open" ∷ words_in rest.entry) e) }
+    ensures none { IfNone result ((cluster : ℕ) → AreBad cluster (codes "open" ∷ words_in rest.entry) BadLine) }
+{
+    let (member, rest) = next_number(rest, 255)?;
+    if rest.is_some() {
+        return None;
+    }
+    Some(Event::Open {
+        member: member as u8,
+    })
+}
+
+fn close(rest: Option<&[u8]>) -> Option<Event>
+    ensures some { IfSome result (λ e. (cluster : ℕ) → AreWords cluster (codes "close" ∷ words_in rest.entry) e) }
+    ensures none { IfNone result ((cluster : ℕ) → AreBad cluster (codes "close" ∷ words_in rest.entry) BadLine) }
+{
+    let (conn, rest) = next_number(rest, u64::MAX)?;
+    if rest.is_some() {
+        return None;
+    }
+    Some(Event::Close { conn })
+}
+
+fn bytes(alloc: Global, cluster: u64, rest: Option<&[u8]>) -> Result<Event, LineError>
+    ensures ok { IfOk result (λ e. AreWords cluster (codes "bytes" ∷ words_in rest.entry) e) }
+    ensures bad { (cause : Cause) → IsErrOf result (LineError.Cause cause)
+        → AreBad cluster (codes "bytes" ∷ words_in rest.entry) cause }
+{
+    let Some((conn, rest)) = next_number(rest, u64::MAX) else {
+        return Err(BAD_LINE);
+    };
+    let Some((word, rest)) = next_word(rest) else {
+        return Err(BAD_LINE);
+    };
+    if rest.is_some() || word.is_empty() || word.len() > MAX_DIGITS {
+        return Err(BAD_LINE);
+    }
+    let bytes = match hex_bytes(alloc, word) {
+        Ok(bytes) => bytes,
+        Err(error) => return Err(error),
+    };
+    Ok(Event::Bytes { conn, bytes })
 }
 
 // The event that a verb and what follows it say.
@@ -295,6 +441,9 @@ fn event(alloc: Global, cluster: u64, verb: Verb, rest: Option<&[u8]>) -> Result
         Verb::Put => put(alloc, cluster, rest),
         Verb::Get => get(alloc, cluster, rest),
         Verb::Apply => apply(rest).ok_or(BAD_LINE),
+        Verb::Open => open(rest).ok_or(BAD_LINE),
+        Verb::Bytes => bytes(alloc, cluster, rest),
+        Verb::Close => close(rest).ok_or(BAD_LINE),
     }
 }
 
@@ -304,16 +453,13 @@ pub(crate) fn skips(line: &[u8]) -> bool
     matches!(line, [] | [b'#', ..])
 }
 
-/// Reads a line behind the `cluster` line, in a script of this cluster. `None` is an empty line or a comment,
-/// and takes no memory. The cause of a line that says no event is `UnknownVerb` where its first word is no
-/// verb, and else `BadLine`.
+/// Reads a line behind the `cluster` line, in a script of this cluster. `None` is an empty line or a comment, and takes no
+/// memory. The cause of a line that says no event is `UnknownVerb` where its first word is no verb, `BadBookmark` where the
+/// line is right but for words where bookmarks should stand, and else `BadLine`.
 pub fn parse_line(alloc: Global, cluster: u64, line: &[u8]) -> Result<Option<Event>, LineError>
     ensures none { (result ≡ Ok None) ↔ (is_skipped line.now ≡ true) }
     ensures says { IfOk result (λ o. IfSome o (λ e. Says cluster line.now e)) }
-    ensures known { IfOk result (λ o. IfSome o (λ e. cause_of line.now ≡ Cause.BadLine)) }
-    // A refused line says nothing, and has the cause that its first word gives.
-    ensures bad { (cause : Cause) → IsErrOf result (LineError.Cause cause)
-        → (cause ≡ cause_of line.now) × ((e : Event) → ¬ (Says cluster line.now e)) }
+    ensures bad { (cause : Cause) → IsErrOf result (LineError.Cause cause) → SaysNone cluster line.now cause }
 {
     if skips(line) {
         return Ok(None);
@@ -342,29 +488,53 @@ fn setup(rest: Option<&[u8]>) -> Option<Setup>
         return None;
     }
     Some(Setup {
+        kind: Kind::List,
         cores: cores as u8,
         replicas: replicas as u8,
         cluster,
         wait,
+        limit: MAX_ENTRIES,
     })
 }
 
-fn is_list(verb: &[u8], kind: &[u8]) -> bool
-    ensures { IsTrue result ↔ ((verb.now ≡ codes "cluster") × (kind.now ≡ codes "list")) }
+fn is_list(kind: &[u8]) -> bool
+    ensures { IsTrue result ↔ (kind.now ≡ codes "list") }
 {
-    verb == b"cluster".as_slice() && kind == b"list".as_slice()
+    kind == b"list".as_slice()
 }
 
-/// Reads the `cluster` line. `None` says that it has another form. It takes no memory.
-pub fn parse_cluster(line: &[u8]) -> Option<Setup>
-    ensures some { IfSome result (λ s. SaysCluster line.now s) }
-    ensures none { IfNone result ((s : Setup) → ¬ (SaysCluster line.now s)) }
+fn is_cluster(verb: &[u8]) -> bool
+    ensures { IsTrue result ↔ (verb.now ≡ codes "cluster") }
+{
+    verb == b"cluster".as_slice()
+}
+
+// What follows `cluster`.
+fn kind(rest: Option<&[u8]>) -> Option<Setup>
+    ensures some { IfSome result (λ s. AreSetup (codes "cluster" ∷ words_in rest.entry) s) }
+    ensures none { IfNone result ((s : Setup) → ¬ (AreSetup (codes "cluster" ∷ words_in rest.entry) s)) }
+{
+    let Some((kind, rest)) = next_word(rest) else {
+        return None;
+    };
+    if !is_list(kind) {
+        return None;
+    }
+    setup(rest)
+}
+
+/// Reads the `cluster` line. The cause of a line that says no cluster is `NoCluster` where its first word is not `cluster`,
+/// and else `BadLine`. It takes no memory.
+pub fn parse_cluster(line: &[u8]) -> Result<Setup, Cause>
+    ensures says { IfOk result (λ s. SaysCluster line.now s) }
+    ensures bad { (cause : Cause) → IsErrOf result cause → IsNoCluster line.now cause }
 {
     let (verb, rest) = cut(line);
-    let (kind, rest) = next_word(rest)?;
-    if is_list(verb, kind) {
-        setup(rest)
-    } else {
-        None
+    if !is_cluster(verb) {
+        return Err(Cause::NoCluster);
+    }
+    match kind(rest) {
+        Some(setup) => Ok(setup),
+        None => Err(Cause::BadLine),
     }
 }

@@ -5,19 +5,14 @@ ghost use Rattle.std.specs.Prelude.{◌≡◌, ◌⊎◌, IfOk, IsErr, IsErrOf, 
 ghost use Rattle.ncc_replay.specs.declared.status.Status.{Status as Statuses};
 ghost use Rattle.std.specs.String.{string_bytes};
 
-mod cluster;
-mod conn;
-mod event;
-mod fact;
+mod hex;
 mod input;
-mod item;
+mod laws;
 mod line;
 mod replay;
-mod reply;
 mod report;
 mod script;
 mod status;
-mod world;
 
 use crate::replay::replay;
 use crate::status::{Status, status_number, status_text};

@@ -1,18 +1,41 @@
-//! The lines of a report. Each function appends to what was written before it.
+//! The report of a run. Each function appends to what was written before it.
 #![tactic(auto, using(std::proofs::lemmas::List::append_assoc))]
 
-ghost use Rattle.std.specs.Prelude.{◌≡◌, ◌++◌, OnOk, codes, length, ◌+◌, ◌<◌, true, false, ℕ, IfOk, vec_len, ◌-◌};
-ghost use Rattle.std.specs.Prelude.{slice_set, slice_index_or};
+ghost use Rattle.std.specs.Prelude.{◌≡◌, ◌≢◌, ◌++◌, ◌∷◌, [], OnOk, codes, length, ◌+◌, true, false, ℕ, List, IfOk, IfSome, IfNone};
+ghost use Rattle.std.specs.Prelude.{Some, None};
+ghost use Rattle.std.specs.Prelude.{◌&&◌};
+ghost use Rattle.std.specs.Str.{bytes_eq};
 ghost use Rattle.std.specs.List.{flat_map};
-ghost use Rattle.ncc_replay.specs.Report.{spaced, rows_text, fact_text, fact_line, role_text, member_line, place_lines, is_waiting};
-ghost use Rattle.ncc_replay.specs.Report.{conn_state, conn_lines};
+ghost use Rattle.ncc_pack.specs.declared.value.Value.TheVariants as v;
+ghost use Rattle.ncc_pack.specs.Short.{short};
+ghost use Rattle.ncc_tx.specs.Spelled.{rows_value, spelled};
+ghost use Rattle.ncc_tx.specs.State.{stamps};
+ghost use Rattle.ncc_tx.specs.declared.stamp.Stamp.{Stamp as OneStamp};
+ghost use Rattle.ncc_store.specs.declared.step.Step.{Step as OneStep};
+ghost use Rattle.ncc_apply.specs.View.{stamp_of};
+ghost use Rattle.ncc_world.specs.Requests.{put_source};
+ghost use Rattle.ncc_world.specs.Events.{is_word};
+ghost use Rattle.ncc_world.specs.Happening.{ListRun};
+ghost use Rattle.ncc_world.specs.World.{Stands};
+ghost use Rattle.ncc_replay.specs.Report.{spaced, rows_text, rows_hex, fault_text, fact_text, fact_line, role_text, member_line};
+ghost use Rattle.ncc_replay.specs.Report.{conn_state, conn_line, out_text, out_line, parts_of, put_parts, entry_text, valid_text};
+ghost use Rattle.ncc_replay.specs.Report.{place_line, place_lines, history_text, report_of};
+ghost use Rattle.ncc_replay.specs.Line.{hex};
 
-use crate::conn::Conn;
-use crate::fact::{Fact, Told};
-use crate::item::Item;
+use crate::hex::append_hex;
+use crate::line::is_word;
 use itoa::Buffer;
-use ncc_pack::{Bytes, Text};
+use ncc_pack::{
+    Bytes, MAX_SIZE, Rows, Text, Value, Values, encode_list_head, encode_values, values_fit,
+};
+use ncc_session::Fact;
+use ncc_store::{RunFault, Step, Steps};
+use ncc_tx::{Entry, Item, Stamp, entry_bytes, entry_fits};
+use ncc_world::{ConnSeen, MemberSeen, Shown, Told, World};
 use std::alloc::{AllocError, Global};
+
+// The statement that `put` stands for.
+const PUT: &str = "MERGE (n:Pair {k: $k}) SET n.v = $v";
 
 // A space and the number.
 fn append_number(n: u64, into: &mut Bytes) -> Result<(), AllocError>
@@ -23,19 +46,6 @@ fn append_number(n: u64, into: &mut Bytes) -> Result<(), AllocError>
     into.extend(buffer.format(n).as_bytes())
 }
 
-// The rows of a statement: none, or one word.
-fn append_rows(rows: &Option<Text>, into: &mut Bytes) -> Result<(), AllocError>
-    ensures { OnOk result (into.new ≡ into.old ++ rows_text rows.now) }
-{
-    match rows {
-        None => into.extend(b" none"),
-        Some(word) => {
-            into.extend(b" word ")?;
-            into.extend(word.as_str().as_bytes())
-        }
-    }
-}
-
 // A word and one number.
 fn append_counted(word: &[u8], n: u64, into: &mut Bytes) -> Result<(), AllocError>
     ensures { OnOk result (into.new ≡ into.old ++ (word.now ++ spaced n)) }
@@ -44,14 +54,107 @@ fn append_counted(word: &[u8], n: u64, into: &mut Bytes) -> Result<(), AllocErro
     append_number(n, into)
 }
 
-// The place that was waited for, how far the member was, and the moment.
-fn append_late(need: u64, at: u64, now: u64, into: &mut Bytes) -> Result<(), AllocError>
-    ensures { OnOk result (into.new ≡ into.old
-        ++ (codes "late" ++ (spaced need ++ (spaced at ++ spaced now)))) }
+// A word and three numbers.
+fn append_three(word: &[u8], a: u64, b: u64, c: u64, into: &mut Bytes) -> Result<(), AllocError>
+    ensures { OnOk result (into.new ≡ into.old ++ (word.now ++ (spaced a ++ (spaced b ++ spaced c)))) }
 {
-    append_counted(b"late", need, into)?;
-    append_number(at, into)?;
-    append_number(now, into)
+    append_counted(word, a, into)?;
+    append_number(b, into)?;
+    append_number(c, into)
+}
+
+// The text that is the whole of a row.
+fn text_alone(row: &Values) -> Option<&Text>
+    ensures some { IfSome result (λ t. row.now ≡ v.Text t.now ∷ []) }
+    ensures none { IfNone result ((text : List ℕ) → row.now ≢ v.Text text ∷ []) }
+{
+    match row.as_slice() {
+        [Value::Text(text)] => Some(text),
+        _ => None,
+    }
+}
+
+// The text that is the whole of the rows.
+fn only_text(rows: &Rows) -> Option<&Text>
+    ensures some { IfSome result (λ t. rows.now ≡ (v.Text t.now ∷ []) ∷ []) }
+    ensures none { IfNone result ((text : List ℕ) → rows.now ≢ (v.Text text ∷ []) ∷ []) }
+{
+    match rows.as_slice() {
+        [row] => text_alone(row),
+        _ => None,
+    }
+}
+
+// One row in its shortest spelling. What a run tells has one; for another there is no memory.
+fn append_row(row: &Values, into: &mut Bytes) -> Result<(), AllocError>
+    ensures { OnOk result (into.new ≡ into.old ++ short (v.List row.now)) }
+{
+    if !values_fit(row) {
+        return Err(AllocError);
+    }
+    encode_values(row, into)
+}
+
+fn append_row_list(rows: &[Values], into: &mut Bytes) -> Result<(), AllocError>
+    ensures { OnOk result (into.new ≡ into.old ++ flat_map (λ row. short (v.List row)) rows.now) }
+{
+    for row in rows {
+        append_row(row, into)?;
+    }
+    Ok(())
+}
+
+// Rows in their shortest spelling, as a list of lists.
+#[tactic(auto, using(crate::proofs::Spelling::rows_short))]
+fn spell_rows(alloc: Global, rows: &Rows) -> Result<Bytes, AllocError>
+    ensures { IfOk result (λ b. b ≡ short (rows_value rows.now)) }
+{
+    if rows.len() > MAX_SIZE {
+        return Err(AllocError);
+    }
+    let mut spelled = Bytes::new(alloc);
+    encode_list_head(rows.len(), &mut spelled)?;
+    append_row_list(rows.as_slice(), &mut spelled)?;
+    Ok(spelled)
+}
+
+fn append_rows_hex(rows: &Rows, into: &mut Bytes) -> Result<(), AllocError>
+    ensures { OnOk result (into.new ≡ into.old ++ rows_hex rows.now) }
+{
+    let spelled = spell_rows(into.allocator(), rows)?;
+    into.extend(b" hex ")?;
+    append_hex(spelled.as_slice(), into)
+}
+
+// The rows of a statement: none, or one word, or their spelling.
+fn append_rows(rows: &Rows, into: &mut Bytes) -> Result<(), AllocError>
+    ensures { OnOk result (into.new ≡ into.old ++ rows_text rows.now) }
+{
+    if rows.is_empty() {
+        return into.extend(b" none");
+    }
+    match only_text(rows) {
+        Some(text) if is_word(text.as_str().as_bytes()) => {
+            into.extend(b" word ")?;
+            into.extend(text.as_str().as_bytes())
+        }
+        _ => append_rows_hex(rows, into),
+    }
+}
+
+#[tactic(auto, unfolding(crate::specs::Report::fault_text))]
+fn fault_word(fault: RunFault) -> &'static str
+    ensures { result.now ≡ fault_text fault }
+{
+    match fault {
+        RunFault::MissingParameter => "missing",
+        RunFault::WrongKind => "kind",
+        RunFault::Overflow => "overflow",
+        RunFault::NullMerge => "nullmerge",
+        RunFault::TooLong => "toolong",
+        RunFault::TooManyRows => "toomany",
+        RunFault::IdsSpent => "ids",
+    }
 }
 
 // What a fact says.
@@ -61,14 +164,26 @@ fn append_text(fact: &Fact, into: &mut Bytes) -> Result<(), AllocError>
 {
     match fact {
         Fact::Entered { at } => append_counted(b"entered", *at, into),
-        Fact::Late { need, at, now } => append_late(*need, *at, *now, into),
+        Fact::Late { need, at, now } => append_three(b"late", *need, *at, *now, into),
         Fact::Rows { at, rows } => {
             append_counted(b"rows", *at, into)?;
             append_rows(rows, into)
         }
+        Fact::Faulted { at, fault } => {
+            append_counted(b"faulted", *at, into)?;
+            into.extend(b" ")?;
+            into.extend(fault_word(*fault).as_bytes())
+        }
         Fact::Done { at } => append_counted(b"done", *at, into),
         Fact::Placed { place } => append_counted(b"placed", *place, into),
+        Fact::Stale { place } => append_counted(b"stale", *place, into),
+        Fact::Replaced { place, mine, found } => {
+            append_three(b"replaced", *place, *mine, *found, into)
+        }
+        Fact::Unsure { place, at, now } => append_three(b"unsure", *place, *at, *now, into),
         Fact::Elsewhere => into.extend(b"elsewhere"),
+        Fact::Full { entries } => append_counted(b"full", *entries, into),
+        Fact::Routed { leader } => append_counted(b"routed", *leader as u64, into),
     }
 }
 
@@ -84,8 +199,8 @@ fn append_fact(told: &Told, into: &mut Bytes) -> Result<(), AllocError>
     into.extend(b"\n")
 }
 
-/// The lines of the facts that were told.
-pub(crate) fn append_told(told: &[Told], into: &mut Bytes) -> Result<(), AllocError>
+// The lines of the facts that were told.
+fn append_told(told: &[Told], into: &mut Bytes) -> Result<(), AllocError>
     ensures { OnOk result (into.new ≡ into.old ++ flat_map fact_line told.now) }
 {
     for one in told {
@@ -94,140 +209,272 @@ pub(crate) fn append_told(told: &[Told], into: &mut Bytes) -> Result<(), AllocEr
     Ok(())
 }
 
-// Notes that the connection of this number has a question, if there is a flag for it.
-#[tactic(auto, using(std::proofs::lemmas::List::set_past))]
-fn note_waiting(flags: &mut [bool], number: u64)
-    ensures noted { 0 < number → flags.new ≡ slice_set flags.old (number - 1) true }
-    ensures kept { number ≡ 0 → flags.new ≡ flags.old }
+// Whether a connection has ended, or waits.
+fn append_state(conn: &ConnSeen, into: &mut Bytes) -> Result<(), AllocError>
+    ensures { OnOk result (into.new ≡ into.old ++ conn_state conn.now) }
 {
-    if number > 0 && number <= flags.len() as u64 {
-        flags[(number - 1) as usize] = true;
-    }
-}
-
-// For each connection, from number 1 on, whether it has a question. One pass over those that have one makes all flags,
-// so that no line of a connection has to search for it.
-fn flags_of(alloc: Global, count: usize, live: &[Conn]) -> Result<Vec<bool>, AllocError>
-    ensures len { IfOk result (λ flags. vec_len flags ≡ count) }
-    ensures each { IfOk result (λ flags. (k : ℕ) → k < count
-        → slice_index_or flags.items k false ≡ is_waiting live.now (k + 1)) }
-{
-    let mut flags = vec![in alloc; false; count]?;
-    for conn in live {
-        note_waiting(&mut flags, conn.number);
-    }
-    Ok(flags)
-}
-
-// Whether a connection has a question.
-fn append_state(waiting: bool, into: &mut Bytes) -> Result<(), AllocError>
-    ensures { OnOk result (into.new ≡ into.old ++ conn_state waiting) }
-{
-    if waiting {
+    if conn.ended {
+        into.extend(b" ended\n")
+    } else if conn.waiting {
         into.extend(b" waiting\n")
     } else {
-        into.extend(b" ended\n")
+        into.extend(b" idle\n")
     }
 }
 
-// The line of a connection to a member.
-fn append_conn(conn: u64, member: u8, waiting: bool, into: &mut Bytes) -> Result<(), AllocError>
-    ensures { OnOk result (into.new ≡ into.old
-        ++ (codes "conn" ++ (spaced conn ++ (spaced member ++ conn_state waiting)))) }
+// The line of a connection.
+#[tactic(auto, using(std::proofs::lemmas::List::append_assoc), unfolding(crate::specs::Report::conn_line))]
+fn append_conn(conn: &ConnSeen, into: &mut Bytes) -> Result<(), AllocError>
+    ensures { OnOk result (into.new ≡ into.old ++ conn_line conn.now) }
 {
-    append_counted(b"conn", conn, into)?;
-    append_number(member as u64, into)?;
-    append_state(waiting, into)
+    append_counted(b"conn", conn.conn, into)?;
+    append_number(conn.member as u64, into)?;
+    append_state(conn, into)
 }
 
-/// The lines of the connections, from number 1 on: which of them have a question.
-#[tactic(auto, using(std::proofs::lemmas::List::append_assoc), unfolding(crate::specs::Report::conn_lines))]
-pub(crate) fn append_conns(
-    alloc: Global,
-    opened: &[u8],
-    live: &[Conn],
-    into: &mut Bytes,
-) -> Result<(), AllocError>
-    ensures { OnOk result (into.new ≡ into.old ++ conn_lines 1 opened.now live.now) }
+// The lines of the connections.
+fn append_conns(conns: &[ConnSeen], into: &mut Bytes) -> Result<(), AllocError>
+    ensures { OnOk result (into.new ≡ into.old ++ flat_map conn_line conns.now) }
 {
-    let flags = flags_of(alloc, opened.len(), live)?;
-    for (index, member) in opened.iter().enumerate() {
-        append_conn(index as u64 + 1, *member, flags[index], into)?;
+    for conn in conns {
+        append_conn(conn, into)?;
     }
     Ok(())
 }
 
-// The role of a member, and its term.
-fn append_role(cores: u8, member: u64, into: &mut Bytes) -> Result<(), AllocError>
-    ensures { OnOk result (into.new ≡ into.old ++ role_text cores member) }
+// What a connection wrote.
+fn append_written(out: &[u8], into: &mut Bytes) -> Result<(), AllocError>
+    ensures { OnOk result (into.new ≡ into.old ++ out_text out.now) }
 {
-    if member == 1 {
-        into.extend(b" leader 1")
-    } else if member <= cores as u64 {
-        into.extend(b" follower 1")
-    } else {
-        into.extend(b" replica 0")
+    if out.is_empty() {
+        return into.extend(b" -\n");
     }
-}
-
-/// The line of a member that has applied `at` entries.
-#[tactic(auto, using(std::proofs::lemmas::List::append_assoc), unfolding(crate::specs::Report::member_line))]
-pub(crate) fn append_member(
-    cores: u8,
-    member: u64,
-    at: u64,
-    into: &mut Bytes,
-) -> Result<(), AllocError>
-    ensures { OnOk result (into.new ≡ into.old ++ member_line cores member at) }
-{
-    append_counted(b"member", member, into)?;
-    append_role(cores, member, into)?;
-    append_number(at, into)?;
+    into.extend(b" ")?;
+    append_hex(out, into)?;
     into.extend(b"\n")
 }
 
-// What an entry writes.
-fn append_write(item: &Item, into: &mut Bytes) -> Result<(), AllocError>
-    ensures { OnOk result (into.new ≡ into.old
-        ++ (codes " put " ++ (item.now.key ++ (codes " " ++ (item.now.value ++ codes " valid\n"))))) }
+// The line of what a connection wrote, where it is printed.
+#[tactic(auto, using(std::proofs::lemmas::List::append_assoc), unfolding(crate::specs::Report::out_line))]
+fn append_out(conn: &ConnSeen, into: &mut Bytes) -> Result<(), AllocError>
+    ensures { OnOk result (into.new ≡ into.old ++ out_line conn.now) }
 {
-    into.extend(b" put ")?;
-    into.extend(item.key.as_str().as_bytes())?;
-    into.extend(b" ")?;
-    into.extend(item.value.as_str().as_bytes())?;
-    into.extend(b" valid\n")
+    if !conn.printed {
+        return Ok(());
+    }
+    append_counted(b"out", conn.conn, into)?;
+    append_written(conn.out.as_slice(), into)
 }
 
-// The line of the entry at a place.
-fn append_place(place: u64, item: &Item, into: &mut Bytes) -> Result<(), AllocError>
-    ensures { OnOk result (into.new ≡ into.old
-        ++ (codes "place" ++ (spaced place ++ (spaced item.now.term ++ (codes " put " ++ (item.now.key
-        ++ (codes " " ++ (item.now.value ++ codes " valid\n")))))))) }
+// The lines of what the connections wrote.
+fn append_outs(conns: &[ConnSeen], into: &mut Bytes) -> Result<(), AllocError>
+    ensures { OnOk result (into.new ≡ into.old ++ flat_map out_line conns.now) }
 {
-    append_counted(b"place", place, into)?;
-    append_number(item.term, into)?;
-    append_write(item, into)
-}
-
-// The lines of the entries of the history, from place 1 on.
-#[tactic(auto, using(std::proofs::lemmas::List::append_assoc), unfolding(crate::specs::Report::place_lines))]
-fn append_places(history: &[Item], into: &mut Bytes) -> Result<(), AllocError>
-    ensures { OnOk result (into.new ≡ into.old ++ place_lines 1 history.now) }
-{
-    for (index, item) in history.iter().enumerate() {
-        append_place(index as u64 + 1, item, into)?;
+    for conn in conns {
+        append_out(conn, into)?;
     }
     Ok(())
 }
 
-/// The lines of the history, and the last line.
-pub(crate) fn append_history(history: &[Item], into: &mut Bytes) -> Result<(), AllocError>
-    ensures appended { OnOk result (into.new ≡
-        into.old ++ (codes "history" ++ (spaced (length history.now) ++ (codes "\n" ++ (place_lines 1 history.now ++ codes "end\n"))))) }
+#[tactic(auto, unfolding(crate::specs::Report::role_text))]
+fn role_word(shown: Shown) -> &'static str
+    ensures { result.now ≡ role_text shown }
 {
-    into.extend(b"history")?;
-    append_number(history.len() as u64, into)?;
+    match shown {
+        Shown::Leader => " leader",
+        Shown::Candidate => " candidate",
+        Shown::Follower => " follower",
+        Shown::Replica => " replica",
+        Shown::Down => " down",
+    }
+}
+
+// The line of a member.
+#[tactic(auto, using(std::proofs::lemmas::List::append_assoc), unfolding(crate::specs::Report::member_line))]
+fn append_member(member: &MemberSeen, into: &mut Bytes) -> Result<(), AllocError>
+    ensures { OnOk result (into.new ≡ into.old ++ member_line member.now) }
+{
+    append_counted(b"member", member.id as u64, into)?;
+    into.extend(role_word(member.shown).as_bytes())?;
+    append_number(member.term, into)?;
+    append_number(member.at, into)?;
+    into.extend(b"\n")
+}
+
+// The lines of the members.
+fn append_members(members: &[MemberSeen], into: &mut Bytes) -> Result<(), AllocError>
+    ensures { OnOk result (into.new ≡ into.old ++ flat_map member_line members.now) }
+{
+    for member in members {
+        append_member(member, into)?;
+    }
+    Ok(())
+}
+
+// Two parameters alone, both texts: a name and a text, and another name and a text.
+fn two_texts(params: &[(Text, Value)]) -> Option<(&Text, &Text, &Text, &Text)>
+    ensures some { IfSome result (λ p. params.now ≡ (p.0.now, v.Text p.1.now) ∷ (p.2.now, v.Text p.3.now) ∷ []) }
+    ensures none { IfNone result ((a k b w : List ℕ) → params.now ≢ (a, v.Text k) ∷ (b, v.Text w) ∷ []) }
+{
+    match params {
+        [(key, Value::Text(k)), (value, Value::Text(w))] => Some((key, k, value, w)),
+        _ => None,
+    }
+}
+
+// Those that a put has: a key and a value, both words.
+fn are_key_and_value(key: &Text, k: &Text, value: &Text, w: &Text) -> bool
+    ensures { result ≡ (bytes_eq key.now (codes "k") && bytes_eq value.now (codes "v") && is_word k.now && is_word w.now) }
+{
+    key.as_str() == "k"
+        && value.as_str() == "v"
+        && is_word(k.as_str().as_bytes())
+        && is_word(w.as_str().as_bytes())
+}
+
+// The key and the value of parameters that are these two alone, both words.
+fn two_words(params: &[(Text, Value)]) -> Option<(&Text, &Text)>
+    ensures some { IfSome result (λ p. parts_of params.now ≡ Some (p.0.now, p.1.now)) }
+    ensures none { IfNone result (parts_of params.now ≡ None) }
+{
+    let Some((key, k, value, w)) = two_texts(params) else {
+        return None;
+    };
+    if !are_key_and_value(key, k, value, w) {
+        return None;
+    }
+    Some((k, w))
+}
+
+fn only_step(steps: &Steps) -> Option<&Step>
+    ensures some { IfSome result (λ s. steps.now ≡ s.now ∷ []) }
+    ensures none { IfNone result ((s : OneStep) → steps.now ≢ s ∷ []) }
+{
+    match steps.as_slice() {
+        [step] => Some(step),
+        _ => None,
+    }
+}
+
+fn is_put(source: &str) -> bool
+    ensures { result ≡ bytes_eq source.now put_source }
+{
+    source == PUT
+}
+
+// Those of a transaction whose one step is that of a put.
+fn put_words(steps: &Steps) -> Option<(&Text, &Text)>
+    ensures some { IfSome result (λ p. put_parts steps.now ≡ Some (p.0.now, p.1.now)) }
+    ensures none { IfNone result (put_parts steps.now ≡ None) }
+{
+    let Some(step) = only_step(steps) else {
+        return None;
+    };
+    if !is_put(step.source.as_str()) {
+        return None;
+    }
+    two_words(step.params.as_slice())
+}
+
+// An entry in its one spelling. What a history has has one; for another there is no memory.
+fn append_spelled(entry: &Entry, into: &mut Bytes) -> Result<(), AllocError>
+    ensures { OnOk result (into.new ≡ into.old ++ (codes "tx " ++ hex (spelled entry.now))) }
+{
+    if !entry_fits(entry) {
+        return Err(AllocError);
+    }
+    let mut bytes = Bytes::new(into.allocator());
+    entry_bytes(entry, &mut bytes)?;
+    into.extend(b"tx ")?;
+    append_hex(bytes.as_slice(), into)
+}
+
+// What an entry says.
+#[tactic(auto, using(std::proofs::lemmas::List::append_assoc), unfolding(crate::specs::Report::entry_text))]
+fn append_entry(entry: &Entry, into: &mut Bytes) -> Result<(), AllocError>
+    ensures { OnOk result (into.new ≡ into.old ++ entry_text entry.now) }
+{
+    let Entry::Tx { steps, .. } = entry else {
+        return into.extend(b"noop");
+    };
+    match put_words(steps) {
+        Some((key, value)) => {
+            into.extend(b"put ")?;
+            into.extend(key.as_str().as_bytes())?;
+            into.extend(b" ")?;
+            into.extend(value.as_str().as_bytes())
+        }
+        None => append_spelled(entry, into),
+    }
+}
+
+fn append_valid(valid: bool, into: &mut Bytes) -> Result<(), AllocError>
+    ensures { OnOk result (into.new ≡ into.old ++ valid_text valid) }
+{
+    if valid {
+        into.extend(b" valid\n")
+    } else {
+        into.extend(b" stale\n")
+    }
+}
+
+// The line of a place of the history.
+#[tactic(auto, using(std::proofs::lemmas::List::append_assoc), unfolding(crate::specs::Report::place_line))]
+fn append_place(place: u64, item: &Item, stamp: Stamp, into: &mut Bytes) -> Result<(), AllocError>
+    ensures { OnOk result (into.new ≡ into.old ++ place_line place item.now stamp) }
+{
+    append_counted(b"place", place, into)?;
+    append_number(item.term, into)?;
+    into.extend(b" ")?;
+    append_entry(&item.entry, into)?;
+    append_valid(stamp.valid, into)
+}
+
+// The line of a place of the history, which has a stamp.
+fn append_stamped(
+    world: &World,
+    place: u64,
+    item: &Item,
+    into: &mut Bytes,
+) -> Result<(), AllocError>
+    ensures { (r : ListRun) (stamp : OneStamp) → Stands world.now r → stamp_of place (stamps r.history) ≡ Some stamp →
+        OnOk result (into.new ≡ into.old ++ place_line place item.now stamp) }
+{
+    match world.stamp(place) {
+        Some(stamp) => append_place(place, item, stamp, into),
+        None => Ok(()),
+    }
+}
+
+// The lines of the places of the history.
+fn append_places(world: &World, history: &[Item], into: &mut Bytes) -> Result<(), AllocError>
+    ensures { (r : ListRun) → Stands world.now r → history.now ≡ r.history →
+        OnOk result (into.new ≡ into.old ++ place_lines 1 history.now (stamps history.now)) }
+{
+    for (index, item) in history.iter().enumerate() {
+        append_stamped(world, index as u64 + 1, item, into)?;
+    }
+    Ok(())
+}
+
+// The lines of the history.
+fn append_history(world: &World, into: &mut Bytes) -> Result<(), AllocError>
+    ensures { (r : ListRun) → Stands world.now r → OnOk result (into.new ≡ into.old ++ history_text r.history) }
+{
+    append_counted(b"history", world.history().len() as u64, into)?;
     into.extend(b"\n")?;
-    append_places(history, into)?;
+    append_places(world, world.history().as_slice(), into)
+}
+
+/// Appends the report of the run that the world stands for. An `Err` leaves a front of it.
+pub fn report(world: &World, into: &mut Bytes) -> Result<(), AllocError>
+    ensures appended { (r : ListRun) → Stands world.now r → OnOk result (into.new ≡ into.old ++ report_of world.now.setup r) }
+{
+    into.extend(b"ncc-report 1\n")?;
+    append_told(world.told().as_slice(), into)?;
+    append_conns(world.conns().as_slice(), into)?;
+    append_outs(world.conns().as_slice(), into)?;
+    append_members(world.members().as_slice(), into)?;
+    append_history(world, into)?;
     into.extend(b"end\n")
 }

@@ -1,18 +1,26 @@
 //! A script, read line by line and run as it is read.
 
-ghost use Rattle.std.specs.Prelude.{◌≡◌, ◌≢◌, ℕ, ◌+◌, ◌<◌, ◌≤◌, List, [], ◌∷◌, length, position, ◌==◌, IfOk, IsErrOf, false};
-ghost use Rattle.ncc_replay.specs.Line.{is_skipped};
-ghost use Rattle.ncc_replay.specs.Script.{Script, IsScript, IsNoScript, RefuseLine, lines_of, cause_of};
-ghost use Rattle.ncc_replay.specs.Progress.{Stands, RunIs};
+ghost use Rattle.std.specs.Prelude.{◌≡◌, ℕ, ◌+◌, ◌<◌, ◌≤◌, List, [], ◌∷◌, length, position, ◌==◌, IfOk, IsErrOf, IsTrue, ◌↔◌, Option};
+ghost use Rattle.std.specs.Prelude.{Some, false};
+ghost use Rattle.ncc_replay.specs.Line.{header, is_skipped};
+ghost use Rattle.ncc_replay.specs.Script.{Script, Lines, Counts, IsText, lines_of, whole, refused, limited, cause_of};
+ghost use Rattle.ncc_replay.specs.Progress.{GoesOn, EndsSo, IsRunOf};
 ghost use Rattle.ncc_replay.specs.declared.status.Cause.{Cause as Causes};
+ghost use Rattle.ncc_replay.specs.declared.script.ScriptError.{ScriptError as Errors};
+ghost use Rattle.ncc_world.specs.declared.error.Which.{Which as Limits};
+ghost use Rattle.ncc_world.specs.Happening.{ListRun};
 
-use crate::event::Event;
-use crate::fact::WorldError;
 use crate::line::{LineError, parse_cluster, parse_line, skips};
 use crate::status::Cause;
-use crate::world::World;
+use ncc_world::{Which, World, WorldError};
 use std::alloc::Global;
 use thiserror::Error;
+
+/// The most bytes of a line.
+const MAX_LINE: usize = 2_200_000;
+
+/// The most events of a script.
+const MAX_EVENTS: u64 = 1_000_000;
 
 /// Why a script gives no run.
 #[derive(Clone, Copy, Debug, PartialEq, Eq, Error)]
@@ -20,6 +28,9 @@ pub enum ScriptError {
     /// The first line that is not accepted, numbered from 1, and why.
     #[error("line {line}: {cause}")]
     Bad { line: u64, cause: Cause },
+    /// The first line that passes a limit comes before that.
+    #[error("limit: {which}")]
+    Limit { which: Which },
     /// There was no memory.
     #[error("out of memory")]
     Memory,
@@ -32,8 +43,8 @@ pub enum Progress {
     Header,
     /// The `cluster` line.
     Cluster,
-    /// An event of this cluster.
-    Events { cluster: u64, world: World },
+    /// An event of this world, behind so many.
+    Events { count: u64, world: World },
 }
 
 // Where the first LF stands.
@@ -55,48 +66,55 @@ fn cut_line(text: &[u8]) -> (&[u8], &[u8])
     }
 }
 
+fn is_header(line: &[u8]) -> bool
+    ensures { IsTrue result ↔ (line.now ≡ header) }
+{
+    line == b"ncc-script 1".as_slice()
+}
+
 // The line that is to be the header.
 fn take_header(number: u64, line: &[u8]) -> Result<Progress, ScriptError>
-    ensures ok { IfOk result (λ next. (all rest : List (ℕ × List ℕ)) → Stands all ((number, line.now) ∷ rest) Progress.Header →
-        Stands all rest next) }
-    ensures bad { (at : ℕ) (cause : Causes) → IsErrOf result (ScriptError.Bad at cause) → (all rest : List (ℕ × List ℕ)) →
-        Stands all ((number, line.now) ∷ rest) Progress.Header → RefuseLine all at cause }
+    requires { Counts line.now }
+    ensures ok { IfOk result (λ next. (all rest : Lines) → GoesOn all ((number, line.now) ∷ rest) Progress.Header → GoesOn all rest next) }
+    ensures bad { (e : Errors) → IsErrOf result e → (all rest : Lines) → GoesOn all ((number, line.now) ∷ rest) Progress.Header →
+        EndsSo all e }
 {
-    if line == b"ncc-script 1".as_slice() {
+    if is_header(line) {
         Ok(Progress::Cluster)
     } else {
         Err(ScriptError::Bad {
             line: number,
-            cause: Cause::BadLine,
+            cause: Cause::NoHeader,
         })
     }
 }
 
 // The line that is to name the cluster.
 fn take_cluster(alloc: Global, number: u64, line: &[u8]) -> Result<Progress, ScriptError>
-    ensures ok { IfOk result (λ next. (all rest : List (ℕ × List ℕ)) → Stands all ((number, line.now) ∷ rest) Progress.Cluster →
-        Stands all rest next) }
-    ensures bad { (at : ℕ) (cause : Causes) → IsErrOf result (ScriptError.Bad at cause) → (all rest : List (ℕ × List ℕ)) →
-        Stands all ((number, line.now) ∷ rest) Progress.Cluster → RefuseLine all at cause }
+    requires { Counts line.now }
+    ensures ok { IfOk result (λ next. (all rest : Lines) → GoesOn all ((number, line.now) ∷ rest) Progress.Cluster → GoesOn all rest next) }
+    ensures bad { (e : Errors) → IsErrOf result e → (all rest : Lines) → GoesOn all ((number, line.now) ∷ rest) Progress.Cluster →
+        EndsSo all e }
 {
-    let Some(setup) = parse_cluster(line) else {
-        return Err(ScriptError::Bad {
-            line: number,
-            cause: Cause::BadLine,
-        });
+    let setup = match parse_cluster(line) {
+        Ok(setup) => setup,
+        Err(cause) => {
+            return Err(ScriptError::Bad {
+                line: number,
+                cause,
+            });
+        }
     };
-    match World::new(alloc, &setup) {
-        Ok(world) => Ok(Progress::Events {
-            cluster: setup.cluster,
-            world,
-        }),
+    match World::new(alloc, setup) {
+        Ok(world) => Ok(Progress::Events { count: 0, world }),
         Err(_) => Err(ScriptError::Memory),
     }
 }
 
 // Why the script ends at a line that is no event.
 fn bad_line(number: u64, error: LineError) -> ScriptError
-    ensures { (at : ℕ) (cause : Causes) → result ≡ ScriptError.Bad at cause → (error ≡ LineError.Cause cause) × (at ≡ number) }
+    ensures bad { (at : ℕ) (cause : Causes) → result ≡ ScriptError.Bad at cause → (error ≡ LineError.Cause cause) × (at ≡ number) }
+    ensures no_limit { (which : Limits) → ¬ (result ≡ ScriptError.Limit which) }
 {
     match error {
         LineError::Memory => ScriptError::Memory,
@@ -107,69 +125,121 @@ fn bad_line(number: u64, error: LineError) -> ScriptError
     }
 }
 
-// Why the script ends at an event that the world did not make.
-fn bad_event(number: u64, error: WorldError) -> ScriptError
-    ensures { (at : ℕ) (cause : Causes) → result ≡ ScriptError.Bad at cause → (error ≢ WorldError.Memory) × (at ≡ number)
-        × (cause ≡ Cause.BadLine) }
+// Why a world refuses an event.
+fn cause_of(error: WorldError) -> Option<Cause>
+    ensures { result ≡ cause_of error }
 {
     match error {
-        WorldError::Memory => ScriptError::Memory,
-        WorldError::NoMember | WorldError::WrongRole | WorldError::BackInTime => ScriptError::Bad {
-            line: number,
-            cause: Cause::BadLine,
-        },
+        WorldError::NoMember => Some(Cause::NoMember),
+        WorldError::NoConn => Some(Cause::NoConn),
+        WorldError::NoMessage => Some(Cause::NoMessage),
+        WorldError::NoSession => Some(Cause::NoSession),
+        WorldError::BackInTime => Some(Cause::BackInTime),
+        WorldError::WrongWorld => Some(Cause::WrongWorld),
+        WorldError::WrongRole => Some(Cause::WrongRole),
+        WorldError::Busy => Some(Cause::Busy),
+        WorldError::Limit(_) => None,
+        WorldError::Memory => None,
     }
 }
 
-// A line that is to be an event.
+// Why the script ends at an event that the world did not make.
+fn bad_event(number: u64, error: WorldError) -> ScriptError
+    ensures bad { (at : ℕ) (cause : Causes) → result ≡ ScriptError.Bad at cause → (cause_of error ≡ Some cause) × (at ≡ number) }
+    ensures limit { (which : Limits) → result ≡ ScriptError.Limit which → error ≡ WorldError.Limit which }
+{
+    if let WorldError::Limit(which) = error {
+        return ScriptError::Limit { which };
+    }
+    match cause_of(error) {
+        Some(cause) => ScriptError::Bad {
+            line: number,
+            cause,
+        },
+        None => ScriptError::Memory,
+    }
+}
+
+// A line that is to be an event, behind so many.
 fn take_event(
     alloc: Global,
-    cluster: u64,
+    count: u64,
     mut world: World,
     number: u64,
     line: &[u8],
 ) -> Result<Progress, ScriptError>
-    requires { is_skipped line.now ≡ false }
-    ensures ok { IfOk result (λ next. (all rest : List (ℕ × List ℕ)) →
-        Stands all ((number, line.now) ∷ rest) (Progress.Events cluster world) → Stands all rest next) }
-    ensures bad { (at : ℕ) (cause : Causes) → IsErrOf result (ScriptError.Bad at cause) → (all rest : List (ℕ × List ℕ)) →
-        Stands all ((number, line.now) ∷ rest) (Progress.Events cluster world) → RefuseLine all at cause }
+    requires { Counts line.now }
+    ensures ok { IfOk result (λ next. (all rest : Lines) →
+        GoesOn all ((number, line.now) ∷ rest) (Progress.Events count world) → GoesOn all rest next) }
+    ensures bad { (e : Errors) → IsErrOf result e → (all rest : Lines) →
+        GoesOn all ((number, line.now) ∷ rest) (Progress.Events count world) → EndsSo all e }
 {
-    let event = match parse_line(alloc, cluster, line) {
+    let setup = world.setup();
+    let event = match parse_line(alloc, setup.cluster, line) {
         Ok(Some(event)) => event,
-        Ok(None) => return Ok(Progress::Events { cluster, world }),
+        Ok(None) => return Ok(Progress::Events { count, world }),
         Err(error) => return Err(bad_line(number, error)),
     };
     match world.event(number, &event) {
-        Ok(()) => Ok(Progress::Events { cluster, world }),
-        Err(error) => Err(bad_event(number, error)),
+        Ok(()) => {}
+        Err(error) => return Err(bad_event(number, error)),
     }
+    // Behind all other causes of the line.
+    if count >= MAX_EVENTS {
+        return Err(ScriptError::Limit {
+            which: Which::Events,
+        });
+    }
+    Ok(Progress::Events {
+        count: count + 1,
+        world,
+    })
 }
 
 // A line that counts.
+fn take_counted(
+    alloc: Global,
+    progress: Progress,
+    number: u64,
+    line: &[u8],
+) -> Result<Progress, ScriptError>
+    requires { Counts line.now }
+    ensures ok { IfOk result (λ next. (all rest : Lines) → GoesOn all ((number, line.now) ∷ rest) progress → GoesOn all rest next) }
+    ensures bad { (e : Errors) → IsErrOf result e → (all rest : Lines) → GoesOn all ((number, line.now) ∷ rest) progress → EndsSo all e }
+{
+    match progress {
+        Progress::Header => take_header(number, line),
+        Progress::Cluster => take_cluster(alloc, number, line),
+        Progress::Events { count, world } => take_event(alloc, count, world, number, line),
+    }
+}
+
+// A line.
 fn take_line(
     alloc: Global,
     progress: Progress,
     number: u64,
     line: &[u8],
 ) -> Result<Progress, ScriptError>
-    requires { is_skipped line.now ≡ false }
-    ensures ok { IfOk result (λ next. (all rest : List (ℕ × List ℕ)) → Stands all ((number, line.now) ∷ rest) progress →
-        Stands all rest next) }
-    ensures bad { (at : ℕ) (cause : Causes) → IsErrOf result (ScriptError.Bad at cause) → (all rest : List (ℕ × List ℕ)) →
-        Stands all ((number, line.now) ∷ rest) progress → RefuseLine all at cause }
+    ensures ok { IfOk result (λ next. (all rest : Lines) → GoesOn all ((number, line.now) ∷ rest) progress → GoesOn all rest next) }
+    ensures bad { (e : Errors) → IsErrOf result e → (all rest : Lines) → GoesOn all ((number, line.now) ∷ rest) progress → EndsSo all e }
 {
-    match progress {
-        Progress::Header => take_header(number, line),
-        Progress::Cluster => take_cluster(alloc, number, line),
-        Progress::Events { cluster, world } => take_event(alloc, cluster, world, number, line),
+    if line.len() > MAX_LINE {
+        return Err(ScriptError::Limit { which: Which::Line });
     }
+    if skips(line) {
+        return Ok(progress);
+    }
+    take_counted(alloc, progress, number, line)
 }
 
 /// Reads a whole script and runs it. The answer is none where the script ends before its `cluster` line.
 pub fn run_script(alloc: Global, text: &[u8]) -> Result<Option<World>, ScriptError>
-    ensures ok { IfOk result (λ world. (s : Script) × IsScript text.now s × RunIs world s) }
-    ensures bad { (at : ℕ) (cause : Causes) → IsErrOf result (ScriptError.Bad at cause) → IsNoScript text.now at cause }
+    ensures ok { IfOk result (λ world. (s : Script) × (t : Option ListRun) × IsText text.now s t whole × IsRunOf world s t) }
+    ensures bad { (line : ℕ) (cause : Causes) → IsErrOf result (ScriptError.Bad line cause) →
+        (s : Script) × (t : Option ListRun) × IsText text.now s t (refused line cause) }
+    ensures limit { (which : Limits) → IsErrOf result (ScriptError.Limit which) →
+        (s : Script) × (t : Option ListRun) × IsText text.now s t (limited which) }
 {
     let mut progress = Progress::Header;
     let mut rest = text;
@@ -178,12 +248,10 @@ pub fn run_script(alloc: Global, text: &[u8]) -> Result<Option<World>, ScriptErr
         let (line, behind) = cut_line(rest);
         rest = behind;
         number += 1;
-        if !skips(line) {
-            progress = match take_line(alloc, progress, number, line) {
-                Ok(next) => next,
-                Err(error) => return Err(error),
-            };
-        }
+        progress = match take_line(alloc, progress, number, line) {
+            Ok(next) => next,
+            Err(error) => return Err(error),
+        };
     }
     match progress {
         Progress::Events { world, .. } => Ok(Some(world)),

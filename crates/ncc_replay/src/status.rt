@@ -5,6 +5,7 @@ ghost use Rattle.ncc_replay.specs.StatusText.{number_of_status, text_of_cause, t
 
 use itoa::Buffer;
 use ncc_pack::Text;
+use ncc_world::Which;
 use std::alloc::{AllocError, Global};
 use std::error::Error;
 use std::fmt;
@@ -47,21 +48,6 @@ impl fmt::Display for Cause {
 }
 
 impl Error for Cause {}
-
-/// A number that a script may not pass.
-#[derive(Clone, Copy, Debug, PartialEq, Eq)]
-pub enum Which {
-    /// The lines behind that of the cluster.
-    Events,
-    /// The messages that members sent.
-    Messages,
-    /// The bytes of these messages.
-    MessageBytes,
-    /// The bytes of one line.
-    Line,
-    /// The bytes of the script.
-    Script,
-}
 
 /// How a replay ended.
 #[derive(Clone, Copy, Debug, PartialEq, Eq)]

@@ -1,45 +1,92 @@
-use Rattle.std.proofs.Common.{◌≡◌, ap, sym, subst, ◌∙◌}
-use Rattle.std.proofs.Common.{Err}
-use Rattle.ncc_replay.specs.Script.{IsScript, IsNoScript}
-use Rattle.ncc_replay.specs.Replay.{MayEnd}
-use Rattle.ncc_replay.specs.declared.status.Status.TheVariants.{Done, BadScript}
-use Rattle.ncc_replay.proofs.ScriptLaws.{never_both, read_is, completes_error, refuses_error, script_headline}
+use Rattle.std.proofs.Common.{◌≡◌, ap, sym, subst, ◌∙◌, Err}
+use Rattle.ncc_replay.specs.Script.{IsText, whole, refused, limited}
+use Rattle.ncc_replay.specs.Replay.{MayEnd, ReadsAll}
+use Rattle.ncc_replay.specs.declared.status.Status.TheVariants.{Done, BadScript, Limit}
+use Rattle.ncc_replay.proofs.Ends.{bad_of, limit_of, ends_with, never_limited, never_refused, read_is}
+use Rattle.ncc_replay.proofs.OneEnd.{text_keeps}
 use Rattle.ncc_replay.proofs.replay.replay.Goals as goal
 
-pub returns-in-Err-report-clause-completes : goal.returns-in-Err-report-clause-completes
-returns-in-Err-report-clause-completes g c = λ text s given within script.
+pub returns-in-Err-report_script-clause-completes : goal.returns-in-Err-report_script-clause-completes
+returns-in-Err-report_script-clause-completes g c = λ text s t given within is.
     let same : text ≡ c.in-Ok.text.items = read_is (g.S.Source.left c.args.input.now)
     (g.S.Source.left c.read_all.new.input) text c.in-Ok.text.items given.holds c.in-Ok.ensures.ok in
     let there : text ≡ c.as_slice.result.now = same ∙ sym c.as_slice.ensures.value in
     subst (λ x. MayEnd x Done) (sym c.status_of_script_error.ensures)
-    (completes_error c.as_slice.result.now s c.in-Err-report.error (subst (λ t. IsScript t s) there script)
-    (λ line cause e. c.in-Err-report.ensures.bad line cause (ap Err e)))
+    (ends_with c.one_end.ensures.one c.as_slice.result.now s t whole c.in-Err-report_script.error (subst (λ l. IsText l s t whole) there is)
+    (λ at why e. c.in-Err-report_script.ensures.bad at why (ap Err e)) (λ passed e. c.in-Err-report_script.ensures.limit passed (ap Err e)))
 
-pub returns-in-Err-report-clause-refuses : goal.returns-in-Err-report-clause-refuses
-returns-in-Err-report-clause-refuses g c = λ text line cause given within script.
+pub returns-in-Err-report_script-clause-refuses : goal.returns-in-Err-report_script-clause-refuses
+returns-in-Err-report_script-clause-refuses g c = λ text s t line cause given within is.
     let same : text ≡ c.in-Ok.text.items = read_is (g.S.Source.left c.args.input.now)
     (g.S.Source.left c.read_all.new.input) text c.in-Ok.text.items given.holds c.in-Ok.ensures.ok in
     let there : text ≡ c.as_slice.result.now = same ∙ sym c.as_slice.ensures.value in
     subst (λ x. MayEnd x (BadScript line cause)) (sym c.status_of_script_error.ensures)
-    (refuses_error c.as_slice.result.now line cause c.in-Err-report.error (subst (λ t. IsNoScript t line cause) there script)
-    (λ at k e. c.in-Err-report.ensures.bad at k (ap Err e)))
+    (ends_with c.one_end.ensures.one c.as_slice.result.now s t (refused line cause) c.in-Err-report_script.error (subst
+    (λ l. IsText l s t (refused line cause)) there is)
+    (λ at why e. c.in-Err-report_script.ensures.bad at why (ap Err e)) (λ passed e. c.in-Err-report_script.ensures.limit passed (ap Err e)))
 
-pub returns-clause-members_agree : goal.returns-clause-members_agree
-returns-clause-members_agree g c = λ _ s reads setup e. (script_headline reads.0 s setup reads.2 e).members_agree
-
-pub returns-clause-facts_are_lawful : goal.returns-clause-facts_are_lawful
-returns-clause-facts_are_lawful g c = λ _ s reads setup e. (script_headline reads.0 s setup reads.2 e).facts_are_lawful
-
-pub returns-clause-places_are_apart : goal.returns-clause-places_are_apart
-returns-clause-places_are_apart g c = λ _ s reads setup e. (script_headline reads.0 s setup reads.2 e).places_are_apart
-
-pub returns-clause-nobody_is_forgotten : goal.returns-clause-nobody_is_forgotten
-returns-clause-nobody_is_forgotten g c = λ _ s reads setup e. (script_headline reads.0 s setup reads.2 e).nobody_is_forgotten
-
-pub returns-clause-refuses : goal.returns-clause-refuses
-returns-clause-refuses g c = λ text line cause given within script.
+pub returns-in-Err-report_script-clause-limited : goal.returns-in-Err-report_script-clause-limited
+returns-in-Err-report_script-clause-limited g c = λ text s t which given within is.
     let same : text ≡ c.in-Ok.text.items = read_is (g.S.Source.left c.args.input.now)
     (g.S.Source.left c.read_all.new.input) text c.in-Ok.text.items given.holds c.in-Ok.ensures.ok in
     let there : text ≡ c.as_slice.result.now = same ∙ sym c.as_slice.ensures.value in
-    let run : (s : _) × IsScript c.as_slice.result.now s × _ = c.in-Ok-report.ensures.ok in
-    absurd (never_both c.as_slice.result.now run.0 line cause run.1 (subst (λ t. IsNoScript t line cause) there script))
+    subst (λ x. MayEnd x (Limit which)) (sym c.status_of_script_error.ensures)
+    (ends_with c.one_end.ensures.one c.as_slice.result.now s t (limited which) c.in-Err-report_script.error (subst (λ l. IsText l s t
+    (limited which)) there is)
+    (λ at why e. c.in-Err-report_script.ensures.bad at why (ap Err e)) (λ passed e. c.in-Err-report_script.ensures.limit passed (ap Err e)))
+
+pub returns-in-Err-report_script-clause-bad_script : goal.returns-in-Err-report_script-clause-bad_script
+returns-in-Err-report_script-clause-bad_script g c = λ line cause e.
+    bad_of (g.S.Source.left c.args.input.now) (g.S.Source.left c.read_all.new.input) c.as_slice.result.now c.in-Err-report_script.error
+    (subst (ReadsAll (g.S.Source.left c.args.input.now) (g.S.Source.left c.read_all.new.input))
+    (sym c.as_slice.ensures.value) c.in-Ok.ensures.ok)
+    (λ at why f. c.in-Err-report_script.ensures.bad at why (ap Err f)) line cause (sym c.status_of_script_error.ensures ∙ e)
+
+pub returns-in-Err-report_script-clause-limit : goal.returns-in-Err-report_script-clause-limit
+returns-in-Err-report_script-clause-limit g c = λ which e.
+    limit_of (g.S.Source.left c.args.input.now) (g.S.Source.left c.read_all.new.input) c.as_slice.result.now c.in-Err-report_script.error
+    (subst (ReadsAll (g.S.Source.left c.args.input.now) (g.S.Source.left c.read_all.new.input))
+    (sym c.as_slice.ensures.value) c.in-Ok.ensures.ok)
+    (λ passed f. c.in-Err-report_script.ensures.limit passed (ap Err f)) which (sym c.status_of_script_error.ensures ∙ e)
+
+pub returns-clause-members_agree : goal.returns-clause-members_agree
+returns-clause-members_agree g c = λ _ s t reads setup r e f.
+    (text_keeps c.every_run_keeps.ensures.headline reads.text s t whole reads.is_text setup r e f).members_agree
+
+pub returns-clause-facts_are_lawful : goal.returns-clause-facts_are_lawful
+returns-clause-facts_are_lawful g c = λ _ s t reads setup r e f.
+    (text_keeps c.every_run_keeps.ensures.headline reads.text s t whole reads.is_text setup r e f).facts_are_lawful
+
+pub returns-clause-places_are_apart : goal.returns-clause-places_are_apart
+returns-clause-places_are_apart g c = λ _ s t reads setup r e f.
+    (text_keeps c.every_run_keeps.ensures.headline reads.text s t whole reads.is_text setup r e f).places_are_apart
+
+pub returns-clause-all_are_served : goal.returns-clause-all_are_served
+returns-clause-all_are_served g c = λ _ s t reads setup r e f.
+    (text_keeps c.every_run_keeps.ensures.headline reads.text s t whole reads.is_text setup r e f).all_are_served
+
+pub returns-clause-nobody_vanishes : goal.returns-clause-nobody_vanishes
+returns-clause-nobody_vanishes g c = λ _ s t reads setup r e f.
+    (text_keeps c.every_run_keeps.ensures.headline reads.text s t whole reads.is_text setup r e f).nobody_vanishes
+
+pub returns-clause-nobody_is_forgotten : goal.returns-clause-nobody_is_forgotten
+returns-clause-nobody_is_forgotten g c = λ _ s t reads setup r e f.
+    (text_keeps c.every_run_keeps.ensures.headline reads.text s t whole reads.is_text setup r e f).nobody_is_forgotten
+
+pub returns-clause-refuses : goal.returns-clause-refuses
+returns-clause-refuses g c = λ text s t line cause given within is.
+    let same : text ≡ c.in-Ok.text.items = read_is (g.S.Source.left c.args.input.now)
+    (g.S.Source.left c.read_all.new.input) text c.in-Ok.text.items given.holds c.in-Ok.ensures.ok in
+    let there : text ≡ c.as_slice.result.now = same ∙ sym c.as_slice.ensures.value in
+    let run = c.in-Ok-report_script.ensures.ok in
+    absurd (never_refused c.one_end.ensures.one c.as_slice.result.now run.0 s run.1 t line cause run.2
+    (subst (λ l. IsText l s t (refused line cause)) there is))
+
+pub returns-clause-limited : goal.returns-clause-limited
+returns-clause-limited g c = λ text s t which given within is.
+    let same : text ≡ c.in-Ok.text.items = read_is (g.S.Source.left c.args.input.now)
+    (g.S.Source.left c.read_all.new.input) text c.in-Ok.text.items given.holds c.in-Ok.ensures.ok in
+    let there : text ≡ c.as_slice.result.now = same ∙ sym c.as_slice.ensures.value in
+    let run = c.in-Ok-report_script.ensures.ok in
+    absurd (never_limited c.one_end.ensures.one c.as_slice.result.now run.0 s run.1 t which run.2
+    (subst (λ l. IsText l s t (limited which)) there is))

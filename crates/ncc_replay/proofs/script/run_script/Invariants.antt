@@ -1,12 +1,12 @@
 use Rattle.std.proofs.Common.{◌+◌, ◌≤◌, length}
-use Rattle.ncc_replay.specs.Script.{kept_lines}
-use Rattle.ncc_replay.specs.Progress.{Stands, kept_from}
+use Rattle.ncc_replay.specs.Script.{numbered}
+use Rattle.ncc_replay.specs.Progress.{GoesOn, lines_from}
 use Rattle.ncc_replay.proofs.script.run_script.Given as goal
 
 -- what is read makes what it makes, and the lines behind it count on
 abbrev pub invariant-lines : goal.invariant-lines
 invariant-lines l = record {
-  stands : Stands (kept_lines l.text) (kept_from (l.number + 1) l.rest) l.progress;
+  goes : GoesOn (numbered l.text) (lines_from (l.number + 1) l.rest) l.progress;
   counted : l.number + length l.rest ≤ length l.text;
 }
 

@@ -1,29 +1,52 @@
-use Rattle.std.proofs.Common.{◌≡◌, Some, Err, refl, ap, sym, ◌∙◌}
-use Rattle.ncc_replay.specs.Line.{Says}
-use Rattle.ncc_replay.specs.Script.{refusal}
-use Rattle.ncc_replay.specs.declared.script.ScriptError.TheVariants.{Bad}
-use Rattle.ncc_replay.proofs.Scripts.{reached_more, reached_bad, refused_none, error_is}
+use Rattle.std.proofs.Common.{Err, refl, ap, subst, arith}
+use Rattle.ncc_world.specs.declared.setup.Setup.{Setup}
+use Rattle.ncc_replay.specs.Line.{Says, SaysNone}
+use Rattle.ncc_replay.specs.Progress.{EndsSo}
+use Rattle.ncc_replay.proofs.Scripts.{event_goes, many_ends, line_ends, error_ends, error_is, may_happen}
 use Rattle.ncc_replay.proofs.script.take_event.Goals as goal
 
-pub returns-in-Err-clause-bad : goal.returns-in-Err-clause-bad
-returns-in-Err-clause-bad c = λ at cause h all rest r.
-    let why = c.bad_line.ensures at cause (error_is c.bad_line.result (Bad at cause) h) in
-    let bad = c.in-Err.ensures.bad cause (ap Err why.0) in
-    reached_bad all rest c.args.cluster c.args.number c.args.line.now c.args.world at cause (λ run w e a. bad.1 e a.says) why.1 bad.0 r
+pub event-requires : goal.event-requires
+event-requires c =
+    let says : Says c.setup-setup.result.cluster c.args.line.now c.in-Ok-Some.event =
+    rw c.in-Ok-Some.field-0-is at c.in-Ok-Some.ensures.says in
+    record {
+      may_happen = may_happen c.args.world.setup.cluster c.args.line.now c.in-Ok-Some.event
+          (subst (λ (x : Setup). Says x.cluster c.args.line.now c.in-Ok-Some.event) c.setup-setup.ensures.setup says) c.requires.short;
+    }
 
-pub returns-in-Ok-clause-ok : goal.returns-in-Ok-clause-ok
-returns-in-Ok-clause-ok c = λ all rest r.
-    let says : Says c.args.cluster c.args.line.now c.in-Ok-Some.event = rw c.in-Ok-Some.field-0-is at c.in-Ok-Some.ensures.says in
-    reached_more all rest c.args.cluster c.args.number c.args.line.now c.args.world c.event.new.self c.in-Ok-Some.event says
-    c.in-Ok.ensures.ok r
+pub returns-in-Err-clause-bad : goal.returns-in-Err-clause-bad
+returns-in-Err-clause-bad c = λ e h all rest g.
+    subst (EndsSo all) (error_is _ e h) (line_ends all rest c.args.count c.args.number c.args.line.now c.args.world c.bad_line.result
+    c.requires (λ at cause is.
+    let why = c.bad_line.ensures.bad at cause is in (
+      subst (λ (x : Setup). SaysNone x.cluster c.args.line.now cause) c.setup-setup.ensures.setup
+          (c.in-Err.ensures.bad cause (ap Err why.0)),
+      why.1,
+    )) c.bad_line.ensures.no_limit g)
 
 pub returns-in-Err-event-clause-bad : goal.returns-in-Err-event-clause-bad
-returns-in-Err-event-clause-bad c = λ at cause h all rest r.
-    let says : Says c.args.cluster c.args.line.now c.in-Ok-Some.event = rw c.in-Ok-Some.field-0-is at c.in-Ok-Some.ensures.says in
-    let why = c.bad_event.ensures at cause (error_is c.bad_event.result (Bad at cause) h) in
-    let known = rw c.in-Ok-Some.field-0-is at c.in-Ok-Some.ensures.known in
-    reached_bad all rest c.args.cluster c.args.number c.args.line.now c.args.world at cause
-    (λ run w. refused_none c.args.cluster run c.args.line.now c.in-Ok-Some.event says (λ none.
-    let some : refusal run c.in-Ok-Some.event ≡ Some c.in-Err-event.error =
-    (c.in-Err-event.ensures.refused run c.in-Err-event.error w (ap Err refl) why.0).0 in cc))
-    why.1 (why.2 ∙ sym known) r
+returns-in-Err-event-clause-bad c = λ e h all rest g.
+    let says : Says c.setup-setup.result.cluster c.args.line.now c.in-Ok-Some.event =
+    rw c.in-Ok-Some.field-0-is at c.in-Ok-Some.ensures.says in
+    subst (EndsSo all) (error_is _ e h) (error_ends all rest c.args.count c.args.number c.args.line.now c.args.world c.in-Ok-Some.event
+    c.in-Err-event.error c.bad_event.result c.requires
+    (subst (λ (x : Setup). Says x.cluster c.args.line.now c.in-Ok-Some.event) c.setup-setup.ensures.setup says)
+    (λ r st is. (c.in-Err-event.ensures.refused r c.in-Err-event.error st refl is).0)
+    (λ which is. (c.in-Err-event.ensures.limit which (ap Err is)).0) c.bad_event.ensures.bad c.bad_event.ensures.limit g)
+
+pub returns-then-count-ge-MAX_EVENTS-clause-bad : goal.returns-then-count-ge-MAX_EVENTS-clause-bad
+returns-then-count-ge-MAX_EVENTS-clause-bad c = λ e h all rest g.
+    let says : Says c.setup-setup.result.cluster c.args.line.now c.in-Ok-Some.event =
+    rw c.in-Ok-Some.field-0-is at c.in-Ok-Some.ensures.says in
+    subst (EndsSo all) (error_is _ e h) (many_ends all rest c.args.count c.args.number c.args.line.now c.args.world c.event.new.self
+    c.in-Ok-Some.event c.requires
+    (subst (λ (x : Setup). Says x.cluster c.args.line.now c.in-Ok-Some.event) c.setup-setup.ensures.setup says)
+    (omega (arith, c.if-count-ge-MAX_EVENTS.true)) c.in-Ok.ensures.ok g)
+
+pub returns-clause-ok : goal.returns-clause-ok
+returns-clause-ok c = λ all rest g.
+    let says : Says c.setup-setup.result.cluster c.args.line.now c.in-Ok-Some.event =
+    rw c.in-Ok-Some.field-0-is at c.in-Ok-Some.ensures.says in
+    event_goes all rest c.args.count c.args.number c.args.line.now c.args.world c.event.new.self c.in-Ok-Some.event c.requires
+    (subst (λ (x : Setup). Says x.cluster c.args.line.now c.in-Ok-Some.event) c.setup-setup.ensures.setup says)
+    (omega (arith, c.if-count-ge-MAX_EVENTS.false)) c.in-Ok.ensures.ok c.in-Ok.ensures.setup g

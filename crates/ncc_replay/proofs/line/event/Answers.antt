@@ -1,0 +1,42 @@
+use Rattle.std.proofs.Common.{◌∷◌, codes, sym, subst}
+use Rattle.ncc_replay.specs.Reading.{words_in, verb_word, AreBad}
+use Rattle.ncc_replay.proofs.Lines.{none_bad}
+use Rattle.ncc_replay.proofs.line.event.Goals as goal
+
+pub returns-in-Time-clause-bad : goal.returns-in-Time-clause-bad
+returns-in-Time-clause-bad c = λ cause h.
+    subst (λ v. AreBad c.args.cluster (verb_word v ∷ words_in c.args.rest) cause) (sym c.in-Time.is)
+    (none_bad c.args.cluster (codes "time" ∷ words_in c.args.rest) c.time.result c.ok_or.result cause c.ok_or.ensures.value
+    c.time.ensures.none h)
+
+pub returns-in-Apply-clause-bad : goal.returns-in-Apply-clause-bad
+returns-in-Apply-clause-bad c = λ cause h.
+    subst (λ v. AreBad c.args.cluster (verb_word v ∷ words_in c.args.rest) cause) (sym c.in-Apply.is)
+    (none_bad c.args.cluster
+    (codes "apply" ∷ words_in c.args.rest) c.apply.result c.ok_or-in-Apply.result cause c.ok_or-in-Apply.ensures.value
+    c.apply.ensures.none h)
+
+pub returns-in-Open-clause-bad : goal.returns-in-Open-clause-bad
+returns-in-Open-clause-bad c = λ cause h.
+    subst (λ v. AreBad c.args.cluster (verb_word v ∷ words_in c.args.rest) cause) (sym c.in-Open.is)
+    (none_bad c.args.cluster (codes "open" ∷ words_in c.args.rest) c.open.result c.ok_or-in-Open.result cause c.ok_or-in-Open.ensures.value
+    c.open.ensures.none h)
+
+pub returns-in-Close-clause-bad : goal.returns-in-Close-clause-bad
+returns-in-Close-clause-bad c = λ cause h.
+    subst (λ v. AreBad c.args.cluster (verb_word v ∷ words_in c.args.rest) cause) (sym c.in-Close.is)
+    (none_bad c.args.cluster
+    (codes "close" ∷ words_in c.args.rest) c.close.result c.ok_or-in-Close.result cause c.ok_or-in-Close.ensures.value
+    c.close.ensures.none h)
+
+pub returns-in-Put-clause-bad : goal.returns-in-Put-clause-bad
+returns-in-Put-clause-bad c = λ cause h.
+    subst (λ v. AreBad c.args.cluster (verb_word v ∷ words_in c.args.rest) cause) (sym c.in-Put.is) (c.put.ensures.bad cause h)
+
+pub returns-in-Get-clause-bad : goal.returns-in-Get-clause-bad
+returns-in-Get-clause-bad c = λ cause h.
+    subst (λ v. AreBad c.args.cluster (verb_word v ∷ words_in c.args.rest) cause) (sym c.in-Get.is) (c.get.ensures.bad cause h)
+
+pub returns-in-Bytes-clause-bad : goal.returns-in-Bytes-clause-bad
+returns-in-Bytes-clause-bad c = λ cause h.
+    subst (λ v. AreBad c.args.cluster (verb_word v ∷ words_in c.args.rest) cause) (sym c.in-Bytes.is) (c.bytes.ensures.bad cause h)
