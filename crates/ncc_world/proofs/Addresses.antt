@@ -1,5 +1,5 @@
 -- Addresses of members from one on.
-use Rattle.std.proofs.Common.{◌≡◌, ℕ, zero, suc, ◌+◌, List, [], ◌∷◌, ◌++◌, refl, ap, sym, ◌∙◌, arith}
+use Rattle.std.proofs.Common.{◌≡◌, ℕ, zero, suc, ◌+◌, List, [], ◌∷◌, ◌++◌, ap, ◌∙◌, arith}
 use Rattle.ncc_pack.specs.declared.value.Value.{Value}
 use Rattle.ncc_clients.specs.Members.{address, addresses}
 

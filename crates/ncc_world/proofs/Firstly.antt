@@ -4,7 +4,7 @@ use Rattle.ncc_tx.specs.declared.entry.Item.{Item}
 use Rattle.ncc_apply.specs.Shelf.{Shown as Shelved, Stands as ShelfStands}
 use Rattle.ncc_world.specs.declared.setup.Setup.{Setup}
 use Rattle.ncc_world.specs.declared.seen.MemberSeen.{MemberSeen}
-use Rattle.ncc_world.specs.Setting.{Lists, nobody}
+use Rattle.ncc_world.specs.Setting.{Lists}
 use Rattle.ncc_world.specs.Showing.{member_seen, members_from}
 use Rattle.ncc_world.specs.World.{IsShelf, AreShelves, AreMembers}
 

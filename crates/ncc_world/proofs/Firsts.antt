@@ -1,10 +1,9 @@
 -- The first connection that acts, by those that wait at each member.
-use Rattle.std.proofs.Common.{◌≡◌, ◌≢◌, ◌⊎◌, inl, inr, ℕ, zero, suc, ◌+◌, ◌-◌, ◌<◌, ◌≤◌, List, [], ◌∷◌, ◌++◌, length, Option, None, Some, Bool}
-use Rattle.std.proofs.Common.{true, false, cond, not, ◌&&◌, ◌||◌, refl, ap, sym, ◌∙◌, subst, arith, get_or}
-use Rattle.std.specs.Prelude.{slice_get, nat_eq, nat_lt, nat_le, ◌==◌, if◌then◌else◌, position, slice_index_or}
+use Rattle.std.proofs.Common.{◌≡◌, ◌≢◌, inl, inr, ℕ, zero, suc, ◌+◌, ◌-◌, ◌<◌, ◌≤◌, List, [], ◌∷◌, ◌++◌, length, Option, None, Some, Bool}
+use Rattle.std.proofs.Common.{true, false, cond, not, ◌&&◌, ◌||◌, refl, ap, sym, ◌∙◌, arith}
+use Rattle.std.specs.Prelude.{slice_get, nat_lt, nat_le, ◌==◌, if◌then◌else◌, position}
 use Rattle.std.specs.List.{AllByRecursion, position_or_len}
 use Rattle.std.proofs.lemmas.Bool.Decides.{eqb_tells, leb_tells}
-use Rattle.std.proofs.lemmas.List.Sums.{position_or_len_is}
 use Rattle.ncc_wait.specs.declared.parked.Parked.{Parked}
 use Rattle.ncc_wait.specs.declared.outcomes.Outcome.{Outcome}
 use Rattle.ncc_wait.specs.declared.outcomes.Outcome.TheVariants.{Ready, NotYet, Late as IsLate}
@@ -20,15 +19,15 @@ use Rattle.ncc_session.specs.declared.ask.Fact.TheVariants.{Elsewhere}
 use Rattle.ncc_apply.specs.View.{stamp_of}
 use Rattle.ncc_apply.specs.Meant.{one_each}
 use Rattle.ncc_session.specs.Question.{Question, enter, run, leave, leave_noop, route, last_writes, some_writes}
-use Rattle.ncc_clients.specs.Members.{at_of, applied}
-use Rattle.ncc_clients.specs.Run.{Run, Client, Placing, Reply, waits, tells, proposes, reply, question_of, deadline_of, enters, runs, ran, leaves, lands, found, answers}
+use Rattle.ncc_clients.specs.Members.{at_of}
+use Rattle.ncc_clients.specs.Run.{Client, Placing, tells, reply, question_of, deadline_of, enters, runs, ran, leaves, lands, found}
 use Rattle.ncc_clients.specs.Turn.{acts, is_answer}
 use Rattle.ncc_world.specs.declared.setup.Setup.{Setup}
 use Rattle.ncc_world.specs.Setting.{cluster_of}
 use Rattle.ncc_world.specs.Happening.{ListRun}
-use Rattle.ncc_world.specs.World.{AreNumbered, IsSomewhere, IsThere, listed, need_for, parked_by, parked_of, parked_one, parked_at, place_for}
+use Rattle.ncc_world.specs.World.{AreNumbered, IsSomewhere, IsThere, listed, parked_by, parked_of, parked_one, parked_at, place_for}
 use Rattle.ncc_world.specs.Parts.{first_where, lower, number_of}
-use Rattle.ncc_world.proofs.Rooms.{eq_yes, eq_no, lt_no, lt_yes}
+use Rattle.ncc_world.proofs.Rooms.{eq_no, lt_no, lt_yes}
 
 -- ---- a connection acts exactly where it is due
 

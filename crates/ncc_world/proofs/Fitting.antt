@@ -1,5 +1,5 @@
 -- What a member tells a connection answers its question.
-use Rattle.std.proofs.Common.{◌≡◌, inl, inr, ℕ, ◌+◌, ◌-◌, Bool, true, false, T, IsTrue, Option, Some, None, Ok, Err, List, [], ◌∷◌, cond, not, ◌&&◌}
+use Rattle.std.proofs.Common.{◌≡◌, inl, inr, ℕ, ◌-◌, Bool, true, false, IsTrue, Option, Some, None, Ok, Err, List, [], ◌∷◌, cond, not, ◌&&◌}
 use Rattle.std.proofs.Common.{length, map, refl, sym, ◌∙◌, ap, subst, arith, get_or}
 use Rattle.std.specs.Prelude.{if◌then◌else◌, slice_get, pos, ◌==◌}
 use Rattle.std.specs.Int.Signed.{≤ℤ_refl}
@@ -25,9 +25,9 @@ use Rattle.ncc_tx.specs.State.{state, stamps, state_from, after, run_of, valid, 
 use Rattle.ncc_apply.specs.View.{stamp_of}
 use Rattle.ncc_session.specs.declared.ask.Fact.{Fact}
 use Rattle.ncc_session.specs.declared.ask.Fact.TheVariants as f
-use Rattle.ncc_session.specs.Question.{Question, enter, run, leave, leave_noop, route, Row, fits, fits_enter, fits_run, fits_leave, some_writes, last_writes}
+use Rattle.ncc_session.specs.Question.{Question, enter, run, leave, leave_noop, route, Row, fits, fits_run, fits_leave, some_writes, last_writes}
 use Rattle.ncc_session.specs.Talk.{asked, fits_at}
-use Rattle.ncc_clients.specs.Run.{Client, Placing, Reply, waits, tells, proposes, reply, reply_by, question_of, deadline_of, answers, enters, runs, ran, last_rows, leaves, lands, found, found_at}
+use Rattle.ncc_clients.specs.Run.{Client, Placing, waits, tells, reply, reply_by, question_of, deadline_of, answers, enters, ran, last_rows, leaves, lands, found, found_at}
 use Rattle.ncc_world.specs.declared.setup.Setup.{Setup}
 use Rattle.ncc_world.specs.declared.seen.ConnSeen.{ConnSeen}
 use Rattle.ncc_world.specs.declared.served.Served.{Served}

@@ -22,3 +22,7 @@ pub mod Fitting
 pub mod Proposing
 pub mod Happened
 pub mod Fresh
+pub mod Tables
+pub mod Lowering
+pub mod Sending
+pub mod Spelling

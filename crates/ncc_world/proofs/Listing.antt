@@ -1,15 +1,15 @@
 -- Members over one list, each by its index.
-use Rattle.std.proofs.Common.{◌≡◌, ℕ, zero, suc, ◌+◌, ◌-◌, ◌<◌, ◌≤◌, min, List, [], ◌∷◌, ◌++◌, length, get_or, take, drop, Option, None, Some, Bool, true, false, cond}
+use Rattle.std.proofs.Common.{◌≡◌, ℕ, zero, suc, ◌+◌, ◌<◌, ◌≤◌, List, [], ◌∷◌, ◌++◌, length, get_or, Bool, true, false, cond}
 use Rattle.std.proofs.Common.{refl, ap, sym, ◌∙◌, subst, arith, append_assoc, append-nil, length-append}
-use Rattle.std.specs.Prelude.{slice_get, slice_set, slice_index_or, replicate, ◌==◌, nat_le, nat_lt}
+use Rattle.std.specs.Prelude.{slice_set, ◌==◌, nat_le, nat_lt}
 use Rattle.ncc_tx.specs.declared.entry.Item.{Item}
-use Rattle.ncc_apply.specs.Shelf.{Shown as Shelved, Stands as ShelfStands}
+use Rattle.ncc_apply.specs.Shelf.{Shown as Shelved}
 use Rattle.ncc_clients.specs.Members.{longest}
 use Rattle.ncc_world.specs.declared.setup.Setup.{Setup}
 use Rattle.ncc_world.specs.declared.seen.MemberSeen.{MemberSeen}
 use Rattle.ncc_world.specs.Setting.{Lists, list_at}
 use Rattle.ncc_world.specs.Showing.{member_seen, members_from}
-use Rattle.ncc_world.specs.World.{IsShelf, AreShelves, AreMembers, KeptMembers}
+use Rattle.ncc_world.specs.World.{IsShelf, AreShelves}
 use Rattle.ncc_world.proofs.Rooms.{lt_no, lt_yes}
 
 pub shelf_count : (items : List Item) (shelves : List Shelved) (lists : Lists) → AreShelves items shelves lists → length shelves ≡ length lists

@@ -1,7 +1,7 @@
 -- Members that apply more of the one list.
-use Rattle.std.proofs.Common.{◌≡◌, ℕ, zero, suc, ◌+◌, ◌-◌, ◌<◌, ◌≤◌, ◌^◌, min, List, [], ◌∷◌, ◌++◌, length, get_or, take, drop, Option, None, Some, Bool, true, false, cond}
-use Rattle.std.proofs.Common.{refl, ap, sym, ◌∙◌, subst, arith, append_assoc, append-nil, length-append, inl, inr, ◌⊎◌}
-use Rattle.std.specs.Prelude.{slice_get, slice_set, slice_index_or}
+use Rattle.std.proofs.Common.{◌≡◌, ℕ, zero, suc, ◌+◌, ◌-◌, ◌<◌, ◌≤◌, min, List, [], ◌∷◌, ◌++◌, length, get_or, take, drop}
+use Rattle.std.proofs.Common.{refl, ap, sym, ◌∙◌, subst, arith, append-nil, length-append, inl, inr}
+use Rattle.std.specs.Prelude.{slice_set}
 use Rattle.std.proofs.lemmas.List.{get_or-set_same, get_or-set_other, length-set}
 use Rattle.std.proofs.Math.Seq.{take-add, take-length}
 use Rattle.std.proofs.lemmas.Bool.Decides.{leb_tells}
@@ -10,9 +10,8 @@ use Rattle.ncc_apply.specs.Shelf.{Shown as Shelved, Stands as ShelfStands}
 use Rattle.ncc_world.specs.declared.setup.Setup.{Setup}
 use Rattle.ncc_world.specs.declared.seen.MemberSeen.{MemberSeen}
 use Rattle.ncc_world.specs.Setting.{Lists, list_at, extended, lagging}
-use Rattle.ncc_world.specs.Showing.{members_from}
-use Rattle.ncc_world.specs.World.{IsShelf, AreShelves, AreMembers, KeptMembers}
-use Rattle.ncc_world.proofs.Listing.{shelf_at, shelf_set, shelf_count, shelves_grown, seen_set, seen_at, seen_count}
+use Rattle.ncc_world.specs.World.{IsShelf, AreMembers, KeptMembers}
+use Rattle.ncc_world.proofs.Listing.{shelf_at, shelf_set, shelf_count, shelves_grown, seen_set, seen_at}
 
 abbrev pub kept : List Item → List Shelved → List MemberSeen → KeptMembers
 kept items shelves seen = record { items = items; shelves = shelves; seen = seen }

@@ -1,9 +1,9 @@
 -- What becomes of an entry that is proposed.
-use Rattle.std.proofs.Common.{◌≡◌, ℕ, ◌+◌, ◌<◌, ◌≤◌, length, Bool, true, false, cond, refl, ap, sym, ◌∙◌, subst, arith, inl, inr}
+use Rattle.std.proofs.Common.{◌≡◌, ℕ, ◌+◌, ◌<◌, ◌≤◌, length, Bool, true, false, cond, refl, ap, sym, subst, arith, inl, inr}
 use Rattle.std.specs.Prelude.{nat_le, ◌==◌}
 use Rattle.std.proofs.lemmas.Bool.Decides.{leb_tells}
 use Rattle.ncc_tx.specs.declared.entry.Entry.{Entry}
-use Rattle.ncc_clients.specs.Members.{Proposed, elsewhere, full, placed}
+use Rattle.ncc_clients.specs.Members.{elsewhere, full, placed}
 use Rattle.ncc_world.specs.declared.setup.Setup.{Setup}
 use Rattle.ncc_world.specs.declared.members.Proposal.TheVariants as proposal
 use Rattle.ncc_world.specs.Setting.{Lists, cluster_of, list_at, appended, proposes}

@@ -1,5 +1,5 @@
 -- The own step of an event, by its kind.
-use Rattle.std.proofs.Common.{◌≡◌, ℕ, ◌-◌, List, length, true, false, refl}
+use Rattle.std.proofs.Common.{◌≡◌, ℕ, ◌-◌, List, true, refl}
 use Rattle.std.specs.Prelude.{slice_get}
 use Rattle.ncc_bookmark.specs.Point.{Point}
 use Rattle.ncc_clients.specs.Run.{ticked, opened, moved}

@@ -1,5 +1,5 @@
 -- A proposal, and what it does to a run.
-use Rattle.std.proofs.Common.{◌≡◌, ℕ, ◌+◌, ◌-◌, ◌<◌, ◌≤◌, List, [], ◌∷◌, ◌++◌, length, get_or, Option, None, Some, Bool, true, false, cond, map}
+use Rattle.std.proofs.Common.{◌≡◌, ℕ, ◌+◌, ◌-◌, ◌<◌, List, [], length, get_or, Option, Some, Bool, true, false, cond, map}
 use Rattle.std.proofs.Common.{refl, ap, sym, ◌∙◌, subst, arith, IsTrue}
 use Rattle.std.specs.Prelude.{slice_get, slice_set, nat_le, ◌==◌}
 use Rattle.std.proofs.lemmas.List.{length-set}
@@ -8,14 +8,13 @@ use Rattle.ncc_store.specs.Exec.{call_of}
 use Rattle.ncc_tx.specs.declared.entry.Entry.{Entry}
 use Rattle.ncc_tx.specs.declared.entry.Entry.TheVariants as e
 use Rattle.ncc_tx.specs.declared.entry.Item.{Item}
-use Rattle.ncc_session.specs.declared.ask.Fact.{Fact}
 use Rattle.ncc_session.specs.declared.ask.Fact.TheVariants.{Elsewhere, Full}
 use Rattle.ncc_session.specs.Core.{leave_of}
-use Rattle.ncc_session.specs.Question.{Question, fits, some_writes}
+use Rattle.ncc_session.specs.Question.{fits, some_writes}
 use Rattle.ncc_session.specs.Talk.{asked, fits_at}
 use Rattle.ncc_clients.specs.Members.{Proposed, elsewhere, full, placed, longest}
 use Rattle.ncc_clients.specs.declared.told.Told.{Told}
-use Rattle.ncc_clients.specs.Run.{Client, Placing, Reply, tells, proposes, reply, question_of, answers, leaves, deadline_of, accepted, with_placing}
+use Rattle.ncc_clients.specs.Run.{Client, Placing, proposes, reply, question_of, answers, leaves, deadline_of, accepted, with_placing}
 use Rattle.ncc_world.specs.declared.setup.Setup.{Setup}
 use Rattle.ncc_world.specs.declared.seen.ConnSeen.{ConnSeen}
 use Rattle.ncc_world.specs.declared.served.Place.{Place}
@@ -27,7 +26,7 @@ use Rattle.ncc_world.specs.declared.running.Running.{Running}
 use Rattle.ncc_world.specs.Setting.{Lists, cluster_of, list_at, appended}
 use Rattle.ncc_world.specs.Happening.{ListRun}
 use Rattle.ncc_world.specs.World.{KeptMembers, KeptClients, KeptRun, AreMembers, AreServed, RunsAs, IsClient}
-use Rattle.ncc_world.specs.Parts.{Offered, HasRun, IsProposed, members_in, clients_in, run_in}
+use Rattle.ncc_world.specs.Parts.{IsProposed, members_in, clients_in, run_in}
 use Rattle.ncc_world.proofs.Keeping.{get_there, client_at}
 use Rattle.ncc_world.proofs.Turning.{counted, reply_some}
 use Rattle.ncc_world.proofs.Fitting.{fits_here}
@@ -95,7 +94,7 @@ kept_by s r old new k m clock clients told = record {
 
 -- ---- a refusal answers the question
 
-writes_by : (list : List Item) (now deadline : ℕ) (b : Bool) (placing : Option Placing) → leaves list now deadline b placing ≡ proposes → b ≡ true
+pub writes_by : (list : List Item) (now deadline : ℕ) (b : Bool) (placing : Option Placing) → leaves list now deadline b placing ≡ proposes → b ≡ true
 writes_by list now deadline true placing e = refl
 writes_by list now deadline false placing e = absurd (cc)
 

@@ -1,31 +1,26 @@
 -- What the parts of a turn do to a run.
-use Rattle.std.proofs.Common.{◌≡◌, ℕ, zero, suc, ◌+◌, ◌-◌, ◌<◌, ◌≤◌, ◌^◌, min, List, [], ◌∷◌, ◌++◌, length, get_or, Option, None, Some, Bool, true, false, cond, not, ◌&&◌, map}
-use Rattle.std.proofs.Common.{refl, ap, sym, ◌∙◌, subst, arith, IsTrue}
-use Rattle.std.specs.Prelude.{slice_get, slice_set}
+use Rattle.std.proofs.Common.{◌≡◌, ℕ, zero, suc, ◌+◌, ◌-◌, ◌<◌, ◌^◌, min, List, [], ◌∷◌, length, get_or, None, Some, Bool, true, false, cond, not, ◌&&◌}
+use Rattle.std.proofs.Common.{ap, sym, ◌∙◌}
+use Rattle.std.specs.Prelude.{slice_get}
 use Rattle.ncc_wait.specs.declared.outcomes.Outcome.{Outcome}
 use Rattle.ncc_wait.specs.declared.outcomes.Outcome.TheVariants.{Ready, NotYet, Late as IsLate}
-use Rattle.ncc_wait.specs.Waiting.{outcome_of}
-use Rattle.ncc_store.specs.Exec.{call_of, exec}
+use Rattle.ncc_store.specs.Exec.{exec}
 use Rattle.ncc_store.specs.declared.call.Call.{Call}
-use Rattle.ncc_tx.specs.declared.entry.Item.{Item}
 use Rattle.ncc_tx.specs.State.{state}
-use Rattle.ncc_session.specs.declared.ask.Ask.{Ask}
 use Rattle.ncc_session.specs.declared.ask.Ask.TheVariants as a
 use Rattle.ncc_session.specs.declared.ask.Fact.{Fact}
 use Rattle.ncc_session.specs.declared.ask.Fact.TheVariants.{Elsewhere}
 use Rattle.ncc_session.specs.Core.{question_of as asks_of}
 use Rattle.ncc_session.specs.Question.{Question, last_writes}
-use Rattle.ncc_clients.specs.Members.{at_of}
-use Rattle.ncc_clients.specs.Run.{Run, Client, Placing, Reply, waits, tells, proposes, reply, reply_by, question_of, deadline_of, answers, enters, runs, ran, told_to, with_fact}
+use Rattle.ncc_clients.specs.Run.{Client, waits, tells, proposes, reply, reply_by, question_of, answers, enters, runs, ran}
 use Rattle.ncc_world.specs.declared.setup.Setup.{Setup}
 use Rattle.ncc_world.specs.declared.seen.ConnSeen.{ConnSeen}
-use Rattle.ncc_world.specs.declared.served.Place.{Place}
 use Rattle.ncc_world.specs.declared.served.Served.{Served}
 use Rattle.ncc_world.specs.Setting.{cluster_of}
 use Rattle.ncc_world.specs.Happening.{ListRun}
-use Rattle.ncc_world.specs.World.{KeptRun, RunsAs, AreClients, IsClient, asked_by, placing_of}
+use Rattle.ncc_world.specs.World.{KeptRun, RunsAs, AreClients, IsClient}
 use Rattle.ncc_world.specs.Parts.{IsAskedOf}
-use Rattle.ncc_world.proofs.Keeping.{Here, Counts, asked_is, here_at, client_at, clients_count}
+use Rattle.ncc_world.proofs.Keeping.{Here, Counts, here_at, client_at, clients_count}
 
 pub counted : (s : Setup) (w : KeptRun) (r : ListRun) → RunsAs s w r → Counts w.clients.table w.clients.seen r.clients
 counted s w r k = clients_count s w.clients.table w.clients.seen r.clients k.clients.each

@@ -1,5 +1,5 @@
 -- Which events a world takes, and whose events they are refused as.
-use Rattle.std.specs.Prelude.{◌≡◌, ℕ, ◌^◌, ◌<◌, ◌≤◌, ◌==◌, nat_le, Bool, true, ◌||◌, ◌&&◌, List, length}
+use Rattle.std.specs.Prelude.{◌≡◌, ℕ, ◌≤◌, ◌==◌, nat_le, Bool, true, ◌||◌, ◌&&◌, List, length}
 use Rattle.std.specs.List.{All, list_all}
 use Rattle.ncc_bookmark.specs.Point.{Point, Fits}
 use Rattle.ncc_world.specs.declared.event.Event.{Event}

@@ -1,7 +1,6 @@
 -- What an event is: why it is refused, its own step, and what comes of it.
-use Rattle.std.specs.Prelude.{◌≡◌, ℕ, ◌+◌, ◌-◌, nat_lt, nat_le, ◌==◌, Bool, true, false, ◌&&◌, if◌then◌else◌, List, [], ◌∷◌, ◌++◌, length}
+use Rattle.std.specs.Prelude.{◌≡◌, ℕ, ◌-◌, nat_le, ◌==◌, Bool, true, false, ◌&&◌, if◌then◌else◌, List, [], ◌∷◌, ◌++◌, length}
 use Rattle.std.specs.Prelude.{Option, Some, None, slice_get}
-use Rattle.ncc_bookmark.specs.Point.{Point}
 use Rattle.ncc_bolt.specs.declared.message.Request.{Request}
 use Rattle.ncc_clients.specs.Run.{Run, Client, begun, ticked, opened, fed, moved, closed_at}
 use Rattle.ncc_clients.specs.Turn.{Turns, Settles}

@@ -1,9 +1,9 @@
 -- What holds of every run of events: the promise.
-use Rattle.std.specs.Prelude.{◌≡◌, ℕ, List, [], ◌∷◌, ◌++◌, take, Some, slice_get}
+use Rattle.std.specs.Prelude.{◌≡◌, ℕ, List, ◌++◌, take, Some, slice_get}
 use Rattle.std.specs.List.{AllByRecursion}
 use Rattle.ncc_session.specs.Question.{Question}
 use Rattle.ncc_clients.specs.declared.told.Told.{Told}
-use Rattle.ncc_clients.specs.Run.{Run, Client, question_of, told_to}
+use Rattle.ncc_clients.specs.Run.{Client, question_of, told_to}
 use Rattle.ncc_clients.specs.Turn.{Turn, NobodyIsForgotten}
 use Rattle.ncc_clients.specs.Moment.{IsOpen}
 use Rattle.ncc_clients.specs.Four.{Begins, Four}
@@ -11,7 +11,7 @@ use Rattle.ncc_clients.specs.Lawful.{Lawful}
 use Rattle.ncc_clients.specs.Laws.{IsAnswered, PlacesAreApart, AllAreServed, NobodyVanishes}
 use Rattle.ncc_world.specs.declared.setup.Setup.{Setup}
 use Rattle.ncc_world.specs.declared.event.Event.{Event}
-use Rattle.ncc_world.specs.Setting.{IsSetup, Lists, cluster_of, nobody}
+use Rattle.ncc_world.specs.Setting.{IsSetup, cluster_of, nobody}
 use Rattle.ncc_world.specs.Happening.{ListRun, start_of, RunsOn, Within}
 
 -- at every moment every member's applied list begins the history of the whole run

@@ -1,19 +1,18 @@
 -- What the parts of a world do. No public clause speaks of it.
-use Rattle.std.specs.Prelude.{◌≡◌, ℕ, ◌+◌, ◌<◌, Bool, true, false, if◌then◌else◌, ◌||◌, min, nat_lt, List, [], ◌∷◌, ◌++◌, length}
-use Rattle.std.specs.Prelude.{Option, Some, None, slice_get, slice_set, IsTrue}
+use Rattle.std.specs.Prelude.{◌≡◌, ℕ, ◌+◌, ◌*◌, ◌<◌, Bool, true, false, if◌then◌else◌, nat_lt, List, [], ◌∷◌}
+use Rattle.std.specs.Prelude.{Option, Some, None, IsTrue, is_some}
+use Rattle.std.specs.List.{sum_by}
+use Rattle.indexmap.specs.IndexMap.{keys, values}
 use Rattle.ncc_wait.specs.declared.outcomes.Outcome.{Outcome}
 use Rattle.ncc_wait.specs.declared.parked.Parked.{Parked}
 use Rattle.ncc_wait.specs.Room.{put, without}
 use Rattle.ncc_tx.specs.declared.entry.Entry.{Entry}
-use Rattle.ncc_session.specs.declared.ask.Fact.{Fact}
-use Rattle.ncc_session.specs.Question.{Question}
-use Rattle.ncc_session.specs.Talk.{Talk, asked, fits_at}
+use Rattle.ncc_session.specs.Talk.{Talk, asked, fits_at, measure}
 use Rattle.ncc_clients.specs.Members.{Proposed, elsewhere, full, placed}
-use Rattle.ncc_clients.specs.Run.{Run, Client, Placing, Reply, waits, tells, proposes, with_bytes, with_fact, with_placing, deadline_of, question_of}
+use Rattle.ncc_clients.specs.Run.{Client, Placing, Reply, waits, tells, proposes, with_bytes, with_fact, with_placing, deadline_of, question_of}
 use Rattle.ncc_clients.specs.Four.{Begins}
 use Rattle.ncc_clients.specs.Turn.{Turn, AtRest, Does, IsEntryOf, acts}
 use Rattle.ncc_world.specs.declared.setup.Setup.{Setup}
-use Rattle.ncc_world.specs.declared.seen.ConnSeen.{ConnSeen}
 use Rattle.ncc_world.specs.declared.served.Place.{Place}
 use Rattle.ncc_world.specs.declared.served.Served.{Served}
 use Rattle.ncc_world.specs.declared.served.Change.{Change}
@@ -33,7 +32,7 @@ abbrev pub members_in : Members → KeptMembers
 members_in m = record { items = m.items; shelves = m.shelves.items; seen = m.seen }
 
 abbrev pub clients_in : Clients → KeptClients
-clients_in k = record { table = k.table.items; seen = k.seen; rooms = k.rooms.items }
+clients_in k = record { numbers = keys k.table; table = values k.table; seen = k.seen; rooms = k.rooms.items }
 
 abbrev pub run_in : Running → KeptRun
 run_in w = record { now = w.clock; members = members_in w.members; clients = clients_in w.clients; told = w.told }
@@ -76,6 +75,20 @@ abbrev pub MayChange : Change → Talk → Type 0
 MayChange (change.Told fact) talk = IsTrue (fits_at (asked talk) fact)
 MayChange (change.Placed p) talk = 0 < p.place
 MayChange _ talk = Unit {0}
+
+-- How much is left to do: twice the facts that a session takes at most before more bytes have to come, and one where no entry is proposed.
+-- So each fact lowers it, and each proposal.
+abbrev pub left_at : Served → ℕ
+left_at v = 2 * measure v.conn + (if is_some v.placing then 0 else 1)
+
+abbrev pub left_in : Clients → ℕ
+left_in k = sum_by left_at (values k.table)
+
+-- what a change does to that, where the connection's entry was proposed so
+abbrev pub Lowers : Change → Option Place → ℕ → ℕ → Type 0
+Lowers (change.Told fact) placing old new = new < old
+Lowers (change.Placed p) placing old new = placing ≡ None → new < old
+Lowers _ placing old new = Unit {0}
 
 -- who waits where this connection, by its number, now waits so
 abbrev pub parked_anew : ℕ → Option Parked → List Parked → List Parked

@@ -3,7 +3,6 @@ use Rattle.std.specs.Prelude.{ℕ, ◌+◌, nat_le, ◌==◌, if◌then◌else�
 use Rattle.ncc_tx.specs.declared.entry.Item.{Item}
 use Rattle.ncc_clients.specs.Run.{Client, out_of, question_of, has_ended}
 use Rattle.ncc_world.specs.declared.setup.Setup.{Setup}
-use Rattle.ncc_world.specs.declared.seen.Shown.{Shown}
 use Rattle.ncc_world.specs.declared.seen.Shown.TheVariants.{Leader, Follower, Replica}
 use Rattle.ncc_world.specs.declared.seen.MemberSeen.{MemberSeen}
 use Rattle.ncc_world.specs.declared.seen.ConnSeen.{ConnSeen}

@@ -1,17 +1,15 @@
 -- What a world keeps, and the runs that it stands for. It keeps no client's bytes: a connection keeps what it needs of them.
-use Rattle.std.specs.Prelude.{◌≡◌, ℕ, ◌+◌, ◌-◌, ◌<◌, ◌≤◌, Bool, true, false, if◌then◌else◌, ◌==◌, List, [], ◌∷◌, ◌++◌, length, map}
-use Rattle.std.specs.Prelude.{Option, Some, None, slice_get, slice_index_or}
-use Rattle.std.specs.List.{AllByRecursion, flat_map}
+use Rattle.std.specs.Prelude.{◌≡◌, ℕ, ◌+◌, ◌<◌, ◌≤◌, Bool, true, false, if◌then◌else◌, ◌==◌, List, [], ◌∷◌, ◌++◌, length, map}
+use Rattle.std.specs.Prelude.{Option, Some, None, slice_index_or}
+use Rattle.std.specs.List.{AllByRecursion}
 use Rattle.ncc_wait.specs.declared.parked.Parked.{Parked}
 use Rattle.ncc_tx.specs.declared.entry.Item.{Item}
 use Rattle.ncc_apply.specs.Shelf.{Shown as Shelved, Stands as ShelfStands}
-use Rattle.ncc_session.specs.declared.ask.Fact.{Fact}
-use Rattle.ncc_session.specs.Question.{Question, enter, leave, run, leave_noop, route, some_writes}
-use Rattle.ncc_session.specs.Talk.{Talk, Stands as TalkStands, asked, fits_at}
+use Rattle.ncc_session.specs.Question.{Question, enter, leave, some_writes}
+use Rattle.ncc_session.specs.Talk.{Stands as TalkStands, asked}
 use Rattle.ncc_clients.specs.declared.told.Told.{Told}
-use Rattle.ncc_clients.specs.Members.{Cluster, Proposed, elsewhere, full, placed, config_of}
-use Rattle.ncc_clients.specs.Run.{Run, Client, Placing, Reply, waits, tells, proposes, question_of, deadline_of, with_bytes, with_fact}
-use Rattle.ncc_clients.specs.Run.{with_placing}
+use Rattle.ncc_clients.specs.Members.{config_of}
+use Rattle.ncc_clients.specs.Run.{Client, Placing, question_of, deadline_of}
 use Rattle.ncc_world.specs.declared.setup.Setup.{Setup}
 use Rattle.ncc_world.specs.declared.error.Which.{Which}
 use Rattle.ncc_world.specs.declared.error.WorldError.{WorldError}
@@ -55,9 +53,10 @@ pub record AreMembers (s : Setup) (m : KeptMembers) (lists : Lists) : Type 0 whe
   pub some : 0 < length lists
   pub seen : m.seen ≡ members_from s 1 lists
 
--- ---- connections: what is kept of each, what each shows, and who waits at each member
+-- ---- connections: their numbers, what is kept of each, what each shows, and who waits at each member
 
 pub record KeptClients : Type 0 where
+  pub numbers : List ℕ
   pub table : List Served
   pub seen : List ConnSeen
   pub rooms : List (List Parked)
@@ -138,6 +137,8 @@ parked_at s member (c ∷ cs) = parked_one s member c ++ parked_at s member cs
 pub record AreServed (s : Setup) (count : ℕ) (k : KeptClients) (clients : List Client) : Type 0 where
   pub each : AreClients s k.table k.seen clients
   pub numbered : AreNumbered 1 clients
+  -- each is kept by its number
+  pub keyed : k.numbers ≡ map (λ (c : Client). c.number) clients
   pub there : AllByRecursion (IsThere count) clients
   pub count_is : length k.rooms ≡ count
   pub rooms : (index : ℕ) → index < count → slice_index_or k.rooms index [] ≡ parked_at s (index + 1) clients

@@ -1,6 +1,8 @@
 //! The run of a world.
 
 ghost use Rattle.std.specs.Prelude.{◌≡◌, ◌≢◌, ◌+◌, ◌<◌, length, Some, None, true, slice_get, IfOk, OnOk, IsTrue};
+ghost use Rattle.indexmap.specs.IndexMap.{values};
+ghost use Rattle.ncc_bolt.specs.Writing.{fits_request};
 ghost use Rattle.ncc_session.specs.Talk.{asked, fits_at};
 ghost use Rattle.ncc_clients.specs.Run.{Client, reply, proposes, told_to, opened, moved};
 ghost use Rattle.ncc_clients.specs.Turn.{acts, Settles};
@@ -8,7 +10,7 @@ ghost use Rattle.ncc_world.specs.Setting.{IsSetup, cluster_of, lagging};
 ghost use Rattle.ncc_world.specs.Events.{MayHappen};
 ghost use Rattle.ncc_world.specs.Happening.{ListRun, Happens, start_of, own, refusal, unless, asks, feeds, closes_one, is_member, is_open_made};
 ghost use Rattle.ncc_world.specs.World.{RunsAs};
-ghost use Rattle.ncc_world.specs.Parts.{HasRun, TurnBy, Offered, DoesTo, first_acting, lower, number_of, reply_in, run_in};
+ghost use Rattle.ncc_world.specs.Parts.{HasRun, TurnBy, Offered, DoesTo, first_acting, left_in, lower, number_of, reply_in, run_in};
 ghost use Rattle.ncc_world.specs.declared.served.Served.{Served as Serveds};
 
 use crate::answer::{Reply, answered};
@@ -17,15 +19,15 @@ use crate::error::WorldError;
 use crate::event::Event;
 use crate::members::{Members, Proposal};
 use crate::requests::{client_bytes, get_request, put_request};
-use crate::seen::ToldList;
 use crate::served::{Change, question};
 use crate::setup::Setup;
+use crate::telling::Telling;
 use ncc_bolt::Request;
 use ncc_clients::Told;
-use ncc_pack::{Bytes, Memory, Sequence};
+use ncc_pack::{Bytes, Memory};
 use ncc_session::{Ask, Fact};
 use ncc_wait::Outcome;
-use std::alloc::{AllocError, Global};
+use std::alloc::Global;
 
 /// What a world keeps of its run.
 #[derive(Drop)]
@@ -33,7 +35,7 @@ pub(crate) struct Running {
     pub(crate) clock: u64,
     pub(crate) members: Members,
     pub(crate) clients: Clients,
-    pub(crate) told: ToldList,
+    pub(crate) told: Telling,
 }
 
 // The lower of two numbers.
@@ -59,7 +61,7 @@ impl Running {
             clock: 0,
             members,
             clients,
-            told: Sequence::new(alloc),
+            told: Telling::new(alloc),
         })
     }
 
@@ -78,11 +80,11 @@ impl Running {
     // What its member does with the question of the connection at an index.
     fn reply_at(&self, alloc: Global, setup: &Setup, index: usize) -> Result<Reply, Memory>
         requires live { HasRun setup.now self.now }
-        requires there { index < length self.now.clients.table.items }
+        requires there { index < length (values self.now.clients.table) }
         ensures exact { IfOk result (λ a. (r : ListRun) (c : Client) → RunsAs setup.now (run_in self.now) r → slice_get r.clients index ≡ Some c →
             reply_in a ≡ reply (cluster_of setup.now) r c) }
     {
-        let served = &self.clients.table[index];
+        let served = self.clients.served(index);
         let member = self.clients.shown(index).member;
         match question(served) {
             None => Ok(Reply::Waits),
@@ -102,10 +104,11 @@ impl Running {
     // Tells the connection at an index a fact that answers its question.
     fn tell(&mut self, setup: &Setup, line: u64, index: usize, fact: Fact) -> Result<(), Memory>
         requires live { HasRun setup.now self.old }
-        requires there { index < length self.old.clients.table.items }
-        requires fits { (v : Serveds) → slice_get self.old.clients.table.items index ≡ Some v → IsTrue (fits_at (asked v.conn) fact) }
+        requires there { index < length (values self.old.clients.table) }
+        requires fits { (v : Serveds) → slice_get (values self.old.clients.table) index ≡ Some v → IsTrue (fits_at (asked v.conn) fact) }
         ensures ok { OnOk result ((r : ListRun) (c : Client) → RunsAs setup.now (run_in self.old) r → slice_get r.clients index ≡ Some c →
             RunsAs setup.now (run_in self.new) (told_to line r index c fact)) }
+        ensures lowers { OnOk result (left_in self.new.clients < left_in self.old.clients) }
     {
         let conn = self.clients.shown(index).conn;
         let told = Told {
@@ -121,14 +124,14 @@ impl Running {
     // Proposes the entry of the question of the connection at an index at its member.
     fn offer(&mut self, setup: &Setup, index: usize) -> Result<Proposal, Memory>
         requires live { HasRun setup.now self.old }
-        requires there { index < length self.old.clients.table.items }
+        requires there { index < length (values self.old.clients.table) }
         requires asks { (r : ListRun) (c : Client) → RunsAs setup.now (run_in self.old) r → slice_get r.clients index ≡ Some c →
             reply (cluster_of setup.now) r c ≡ proposes }
         ensures ok { IfOk result (λ p. (r : ListRun) (c : Client) → RunsAs setup.now (run_in self.old) r → slice_get r.clients index ≡ Some c →
             Offered setup.now r c p self.old self.new) }
     {
         let member = self.clients.shown(index).member;
-        let Some(ask) = question(&self.clients.table[index]) else {
+        let Some(ask) = question(self.clients.served(index)) else {
             return Ok(Proposal::Elsewhere);
         };
         match ask {
@@ -145,11 +148,12 @@ impl Running {
     // Proposes the entry of the question of the connection at an index. Where it is not accepted, the connection is told so.
     fn propose(&mut self, setup: &Setup, line: u64, index: usize) -> Result<(), Memory>
         requires live { HasRun setup.now self.old }
-        requires there { index < length self.old.clients.table.items }
+        requires there { index < length (values self.old.clients.table) }
         requires asks { (r : ListRun) (c : Client) → RunsAs setup.now (run_in self.old) r → slice_get r.clients index ≡ Some c →
             reply (cluster_of setup.now) r c ≡ proposes }
         ensures ok { OnOk result ((r : ListRun) (c : Client) → RunsAs setup.now (run_in self.old) r → slice_get r.clients index ≡ Some c →
             DoesTo setup.now line r index c proposes (run_in self.new)) }
+        ensures lowers { OnOk result (left_in self.new.clients < left_in self.old.clients) }
     {
         match self.offer(setup, index)? {
             Proposal::Elsewhere => self.tell(setup, line, index, Fact::Elsewhere)?,
@@ -172,9 +176,11 @@ impl Running {
         index: usize,
     ) -> Result<(), Memory>
         requires live { HasRun setup.now self.old }
-        requires there { index < length self.old.clients.table.items }
+        requires there { index < length (values self.old.clients.table) }
         ensures ok { OnOk result ((r : ListRun) (c : Client) → RunsAs setup.now (run_in self.old) r → slice_get r.clients index ≡ Some c →
             acts (cluster_of setup.now) r c ≡ true → DoesTo setup.now line r index c (reply (cluster_of setup.now) r c) (run_in self.new)) }
+        ensures lowers { OnOk result ((r : ListRun) (c : Client) → RunsAs setup.now (run_in self.old) r → slice_get r.clients index ≡ Some c →
+            acts (cluster_of setup.now) r c ≡ true → left_in self.new.clients < left_in self.old.clients) }
     {
         match self.reply_at(alloc, setup, index)? {
             Reply::Waits => Ok(()),
@@ -187,6 +193,7 @@ impl Running {
     fn turn(&mut self, alloc: Global, setup: &Setup, line: u64) -> Result<bool, Memory>
         requires live { HasRun setup.now self.old }
         ensures ok { IfOk result (λ more. (r : ListRun) → RunsAs setup.now (run_in self.old) r → TurnBy setup.now line r (run_in self.new) more) }
+        ensures lowers { IfOk result (λ more. IsTrue more → left_in self.new.clients < left_in self.old.clients) }
     {
         let Some(number) = self.first(setup) else {
             return Ok(false);
@@ -195,18 +202,14 @@ impl Running {
         Ok(true)
     }
 
-    // Turn after turn, until nobody can be answered.
+    // Turn after turn, until nobody can be answered. Each lowers what is left to do.
     fn settle(&mut self, alloc: Global, setup: &Setup, line: u64) -> Result<(), Memory>
         requires live { HasRun setup.now self.old }
         ensures ok { OnOk result ((r : ListRun) → RunsAs setup.now (run_in self.old) r →
             (t : ListRun) × Settles (cluster_of setup.now) line r t × RunsAs setup.now (run_in self.new) t) }
     {
-        'turns: for _ in 0..u64::MAX {
-            if !self.turn(alloc, setup, line)? {
-                return Ok(());
-            }
-        }
-        Err(AllocError)
+        'turns: while self.turn(alloc, setup, line)? {}
+        Ok(())
     }
 }
 
@@ -262,11 +265,11 @@ impl Running {
     // Bytes come in at the connection at an index. Once it is closed they do nothing.
     fn feed(&mut self, setup: &Setup, index: usize, piece: Bytes) -> Result<(), Memory>
         requires live { HasRun setup.now self.old }
-        requires there { index < length self.old.clients.table.items }
+        requires there { index < length (values self.old.clients.table) }
         ensures ok { OnOk result ((r : ListRun) → RunsAs setup.now (run_in self.old) r →
             RunsAs setup.now (run_in self.new) (feeds setup.now r index piece)) }
     {
-        if self.clients.table[index].closed {
+        if self.clients.served(index).closed {
             return Ok(());
         }
         let now = self.clock;
@@ -278,11 +281,11 @@ impl Running {
     // The client closes the connection at an index.
     fn close(&mut self, setup: &Setup, index: usize) -> Result<(), Memory>
         requires live { HasRun setup.now self.old }
-        requires there { index < length self.old.clients.table.items }
+        requires there { index < length (values self.old.clients.table) }
         ensures ok { OnOk result ((r : ListRun) → RunsAs setup.now (run_in self.old) r →
             RunsAs setup.now (run_in self.new) (closes_one r index (slice_get r.clients index))) }
     {
-        if self.clients.table[index].closed {
+        if self.clients.served(index).closed {
             return Ok(());
         }
         let now = self.clock;
@@ -302,7 +305,7 @@ impl Running {
         requires live { HasRun setup.now self.old }
         ensures ok { OnOk result ((r : ListRun) → RunsAs setup.now (run_in self.old) r → is_member r member ≡ true →
             RunsAs setup.now (run_in self.new) (opened r member printed)) }
-        ensures more { OnOk result (length self.new.clients.table.items ≡ length self.old.clients.table.items + 1) }
+        ensures more { OnOk result (length (values self.new.clients.table) ≡ length (values self.old.clients.table) + 1) }
     {
         let now = self.clock;
         self.clients.open(alloc, setup, member, printed, now)
@@ -316,6 +319,7 @@ impl Running {
         member: u8,
         request: &Request,
     ) -> Result<(), Memory>
+        requires fits { IsTrue (fits_request request.now) }
         requires allowed { IsSetup setup.now }
         requires live { HasRun setup.now self.old }
         requires there { (r : ListRun) → RunsAs setup.now (run_in self.old) r → is_member r member ≡ true }

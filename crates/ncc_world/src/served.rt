@@ -1,13 +1,14 @@
 //! One connection of a world.
 
-ghost use Rattle.std.specs.Prelude.{◌≡◌, Some, None, IfSome, IfNone, OnOk};
+ghost use Rattle.std.specs.Prelude.{◌≡◌, [], Some, None, IfSome, IfNone, OnOk};
 ghost use Rattle.ncc_session.specs.Core.{question_of};
 ghost use Rattle.ncc_session.specs.Session.{is_ended};
+ghost use Rattle.ncc_session.specs.Talk.{HandsOut};
 ghost use Rattle.ncc_clients.specs.Run.{Client, since_fed};
 ghost use Rattle.ncc_world.specs.declared.setup.Setup.{Setup};
 ghost use Rattle.ncc_world.specs.declared.seen.ConnSeen.{ConnSeen};
 ghost use Rattle.ncc_world.specs.World.{IsKept, IsClient, asked_by};
-ghost use Rattle.ncc_world.specs.Parts.{MayChange, changed};
+ghost use Rattle.ncc_world.specs.Parts.{Lowers, MayChange, changed, left_at};
 
 use crate::seen::ConnSeen;
 use ncc_pack::{Bytes, Memory};
@@ -80,6 +81,7 @@ pub(crate) fn alter(served: &mut Served, change: Change, now: u64) -> Result<(),
     requires may { MayChange change served.old.conn }
     ensures ok { OnOk result ((s : Setup) (seen : ConnSeen) (c : Client) → IsKept s served.old seen c →
         IsKept s served.new seen (changed s now c change)) }
+    ensures lowers { OnOk result (Lowers change served.old.placing (left_at served.old) (left_at served.new)) }
 {
     match change {
         Change::Fed(piece) => {
@@ -104,15 +106,29 @@ pub(crate) fn alter(served: &mut Served, change: Change, now: u64) -> Result<(),
     }
 }
 
+// What was written is shown. Its room is kept for what comes next, and given back where nothing comes.
+fn let_go(conn: &mut Conn, ended: bool)
+    ensures handed { HandsOut conn.old conn.old.out conn.new }
+    ensures rest { conn.new ≡ record conn.old { out = [] } }
+{
+    if ended {
+        conn.take_out();
+    } else {
+        conn.clear_out();
+    }
+}
+
 // Shows what a connection wrote last, and where it stands.
 pub(crate) fn show(served: &mut Served, seen: &mut ConnSeen) -> Result<(), Memory>
     ensures ok { OnOk result ((s : Setup) (c : Client) → IsKept s served.old seen.old c → IsClient s served.new seen.new c) }
+    ensures left { left_at served.new ≡ left_at served.old }
     ensures conn { seen.new.conn ≡ seen.old.conn }
     ensures member { seen.new.member ≡ seen.old.member }
 {
     seen.out.extend(served.conn.out())?;
-    served.conn.clear_out();
+    let ended = served.closed || has_ended(served.conn.state());
+    let_go(&mut served.conn, ended);
     seen.waiting = question(served).is_some();
-    seen.ended = served.closed || has_ended(served.conn.state());
+    seen.ended = ended;
     Ok(())
 }

@@ -1,4 +1,4 @@
-use Rattle.std.proofs.Common.{◌≡◌, ◌∙◌, ap, sym, get_or, ◌-◌, List, []}
+use Rattle.std.proofs.Common.{◌∙◌, ap, sym, get_or, ◌-◌, List, []}
 use Rattle.std.proofs.lemmas.Result.{IfOk-weaker}
 use Rattle.ncc_tx.specs.declared.entry.Item.{Item}
 use Rattle.ncc_session.specs.declared.ask.Ask.{Ask}

@@ -1,4 +1,4 @@
-use Rattle.std.proofs.Common.{◌≡◌, ◌∙◌, ap, sym, not, Bool, ◌&&◌, map, List}
+use Rattle.std.proofs.Common.{◌∙◌, ap, sym, not, Bool, ◌&&◌, map, List}
 use Rattle.std.specs.Prelude.{◌==◌}
 use Rattle.ncc_store.specs.declared.step.Step.{Step}
 use Rattle.ncc_store.specs.Exec.{call_of}

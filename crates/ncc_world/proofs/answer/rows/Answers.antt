@@ -1,8 +1,8 @@
-use Rattle.std.proofs.Common.{◌≡◌, ◌∙◌, ap, sym, Bool, cond, length, map}
+use Rattle.std.proofs.Common.{◌∙◌, ap, sym, Bool, cond, length, map}
 use Rattle.ncc_store.specs.Exec.{call_of, exec}
 use Rattle.ncc_tx.specs.State.{state}
 use Rattle.ncc_session.specs.declared.ask.Fact.TheVariants.{Elsewhere}
-use Rattle.ncc_clients.specs.Run.{Reply, tells, ran}
+use Rattle.ncc_clients.specs.Run.{tells, ran}
 use Rattle.ncc_world.proofs.answer.rows.Goals as goal
 
 pub returns-then-is_refused : goal.returns-then-is_refused

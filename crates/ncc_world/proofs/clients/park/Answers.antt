@@ -1,4 +1,4 @@
-use Rattle.std.proofs.Common.{◌≡◌, ap, sym, ◌∙◌}
+use Rattle.std.proofs.Common.{ap, ◌∙◌}
 use Rattle.ncc_wait.specs.Room.{is_parked}
 use Rattle.ncc_wait.specs.declared.parked.Parked.{Parked}
 use Rattle.std.proofs.Common.{List}

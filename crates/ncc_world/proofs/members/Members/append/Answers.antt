@@ -1,4 +1,4 @@
-use Rattle.std.proofs.Common.{◌≡◌, ◌<◌, ◌∙◌, ap, sym, length, arith, subst, List, ◌∷◌, [], ◌++◌, get_or}
+use Rattle.std.proofs.Common.{◌≡◌, ◌∙◌, ap, sym, length, arith, subst, List, ◌∷◌, [], ◌++◌, get_or}
 use Rattle.std.specs.Prelude.{slice_set}
 use Rattle.ncc_tx.specs.declared.entry.Item.{Item}
 use Rattle.ncc_world.specs.World.{AreMembers}

@@ -1,11 +1,11 @@
-use Rattle.std.proofs.Common.{◌≡◌, ◌<◌, ◌≤◌, ◌+◌, ◌-◌, min, ◌∙◌, ap, sym, length, arith, subst, List, get_or, take, refl}
+use Rattle.std.proofs.Common.{◌≡◌, ◌+◌, ◌-◌, min, ◌∙◌, ap, sym, length, arith, subst, List, get_or, take, refl}
 use Rattle.std.specs.Prelude.{slice_set}
 use Rattle.ncc_apply.specs.Shelf.{Stands}
 use Rattle.ncc_tx.specs.declared.entry.Item.{Item}
 use Rattle.ncc_world.specs.declared.seen.MemberSeen.{MemberSeen}
 use Rattle.ncc_world.specs.World.{AreMembers}
 use Rattle.ncc_world.specs.Setting.{lagging}
-use Rattle.ncc_world.proofs.Listing.{shelf_count, seen_count, shelf_at, shelf_short}
+use Rattle.ncc_world.proofs.Listing.{shelf_count, seen_count, shelf_short}
 use Rattle.ncc_world.proofs.Moving.{kept, lagged}
 use Rattle.ncc_world.proofs.members.Members.apply.Goals as goal
 
@@ -37,7 +37,7 @@ returns-clause-ok c = λ s lists k far.
     let goal_is : goal ≡ min (from + c.args.count) (length items) = omega arith in
     let shown : c.from_vec.result ≡ slice_set seen i n =
     c.from_vec.ensures.same ∙ ap (λ (l : List MemberSeen). slice_set l i n) c.taken-seen.ensures.same in
-    let same = c.as_slice.ensures.same in
+    let same = c.as_slice.ensures.same ∙ c.entries.ensures.same in
     subst (λ (l : List MemberSeen). AreMembers s (kept items (slice_set shelves i y) l) (lagging lists c.args.member c.args.count)) (sym shown)
     (lagged s items shelves seen lists i c.args.member c.args.count from goal x y m n k far refl
     (omega (arith, c.requires.there)) c.index_mut.ensures.value

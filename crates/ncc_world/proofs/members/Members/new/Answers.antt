@@ -1,4 +1,4 @@
-use Rattle.std.proofs.Common.{◌≡◌, ◌∙◌, ◌+◌, ◌++◌, ◌∷◌, [], suc, ap, sym, subst, arith, List, ℕ}
+use Rattle.std.proofs.Common.{◌≡◌, ◌+◌, ◌++◌, ◌∷◌, [], suc, sym, subst, arith, List, ℕ}
 use Rattle.ncc_tx.specs.declared.entry.Item.{Item}
 use Rattle.ncc_apply.specs.Shelf.{Shown as Shelved}
 use Rattle.ncc_world.specs.declared.seen.MemberSeen.{MemberSeen}

@@ -1,4 +1,3 @@
-use Rattle.std.proofs.Common.{◌≡◌, [], replicate}
 use Rattle.ncc_world.proofs.Firstly.{AreFirst}
 use Rattle.ncc_world.proofs.members.Members.new.Given as goal
 

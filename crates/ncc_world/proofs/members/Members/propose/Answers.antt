@@ -1,10 +1,8 @@
-use Rattle.std.proofs.Common.{◌≡◌, ◌∙◌, ap, sym, subst, length, List, ◌∷◌, [], ◌++◌, not, Bool, true, false}
-use Rattle.std.specs.Prelude.{slice_set, ◌==◌}
+use Rattle.std.proofs.Common.{◌∙◌, ap, sym, subst, length}
 use Rattle.ncc_tx.specs.declared.entry.Entry.{Entry}
-use Rattle.ncc_tx.specs.declared.entry.Item.{Item}
 use Rattle.ncc_world.specs.World.{AreMembers}
 use Rattle.ncc_world.specs.Parts.{members_in}
-use Rattle.ncc_world.specs.Setting.{appended, list_at}
+use Rattle.ncc_world.specs.Setting.{appended}
 use Rattle.ncc_world.proofs.Offering.{is_elsewhere, is_full, is_placed}
 use Rattle.ncc_world.proofs.members.Members.propose.Goals as goal
 

@@ -1,9 +1,7 @@
-use Rattle.std.proofs.Common.{◌≡◌, ◌<◌, ◌≤◌, ◌∙◌, ap, sym, refl, subst, length, arith, get_or, Some, Bool, append-nil, List, [], ◌++◌}
-use Rattle.std.specs.Prelude.{slice_set, slice_get}
-use Rattle.ncc_world.specs.Happening.{ListRun}
-use Rattle.ncc_world.specs.World.{RunsAs, AreServed}
-use Rattle.ncc_world.specs.Setting.{cluster_of, lagging}
-use Rattle.ncc_world.specs.Parts.{run_in, clients_in, members_in}
+use Rattle.std.proofs.Common.{◌≡◌, ◌<◌, ◌∙◌, sym, subst, arith, append-nil, List, [], ◌++◌}
+use Rattle.ncc_world.specs.World.{AreServed}
+use Rattle.ncc_world.specs.Setting.{lagging}
+use Rattle.ncc_world.specs.Parts.{clients_in}
 use Rattle.std.proofs.lemmas.List.{length-set}
 use Rattle.ncc_tx.specs.declared.entry.Item.{Item}
 use Rattle.ncc_world.proofs.Listing.{shelf_count, longest_is}

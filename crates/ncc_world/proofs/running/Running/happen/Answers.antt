@@ -1,9 +1,3 @@
-use Rattle.std.proofs.Common.{◌≡◌, ◌<◌, ◌≤◌, ◌∙◌, ap, sym, refl, subst, length, arith, get_or, Some, Bool, append-nil, List, [], ◌++◌}
-use Rattle.std.specs.Prelude.{slice_set, slice_get}
-use Rattle.ncc_world.specs.Happening.{ListRun}
-use Rattle.ncc_world.specs.World.{RunsAs, AreServed}
-use Rattle.ncc_world.specs.Setting.{cluster_of, lagging}
-use Rattle.ncc_world.specs.Parts.{run_in, clients_in, members_in}
 use Rattle.ncc_world.specs.Happening.{own}
 use Rattle.ncc_world.proofs.running.Running.happen.Goals as goal
 

@@ -1,4 +1,4 @@
-use Rattle.std.proofs.Common.{◌≡◌, ◌∙◌, ◌+◌, ◌-◌, ◌<◌, ◌≤◌, ap, sym, arith, inl, inr, get_or, length, List}
+use Rattle.std.proofs.Common.{◌∙◌, ◌-◌, ap, arith, inl, inr, get_or, List}
 use Rattle.ncc_world.specs.declared.seen.ConnSeen.{ConnSeen}
 use Rattle.ncc_world.specs.Parts.{run_in}
 use Rattle.ncc_world.proofs.Opened.{made_there, made_not}

@@ -1,4 +1,4 @@
-use Rattle.std.proofs.Common.{◌≡◌, ◌∙◌, ◌+◌, [], ℕ, refl, sym, subst}
+use Rattle.std.proofs.Common.{◌∙◌, ◌+◌, [], ℕ, refl, sym, subst}
 use Rattle.ncc_world.specs.World.{AreServed}
 use Rattle.ncc_world.specs.Parts.{clients_in}
 use Rattle.ncc_world.proofs.Firstly.{first_list, empties_count}

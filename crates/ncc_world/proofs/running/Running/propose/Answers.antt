@@ -1,17 +1,18 @@
-use Rattle.std.proofs.Common.{◌≡◌, ◌∙◌, ap, sym, refl, Some, get_or, subst, length, arith, List, ◌<◌, ◌++◌}
+use Rattle.std.proofs.Common.{◌≡◌, ◌∙◌, ap, sym, refl, Some, subst, length, arith, List, ◌<◌, ◌++◌}
 use Rattle.std.specs.Prelude.{slice_get, slice_set}
+use Rattle.indexmap.specs.IndexMap.{values}
 use Rattle.ncc_tx.specs.declared.entry.Item.{Item}
 use Rattle.ncc_clients.specs.Members.{Proposed}
-use Rattle.ncc_clients.specs.Run.{proposed, told_to, with_placing}
+use Rattle.ncc_clients.specs.Run.{proposed, with_placing}
 use Rattle.ncc_world.specs.declared.clients.Clients.{Clients}
-use Rattle.ncc_world.specs.declared.served.Served.{Served}
 use Rattle.ncc_world.specs.Setting.{Lists, cluster_of}
 use Rattle.ncc_world.specs.World.{RunsAs, AreServed}
-use Rattle.ncc_world.specs.Parts.{run_in, members_in, clients_in}
+use Rattle.ncc_world.specs.Parts.{left_in, run_in, members_in, clients_in}
 use Rattle.ncc_world.proofs.Listing.{longest_is}
 use Rattle.ncc_world.proofs.Keeping.{get_there}
 use Rattle.ncc_world.proofs.Turning.{counted}
 use Rattle.ncc_world.proofs.Proposing.{sits, was_elsewhere, was_full, was_placed, kept_by, accepted_as, elsewhere_fits, full_fits}
+use Rattle.ncc_world.proofs.Lowering.{unplaced}
 use Rattle.ncc_world.proofs.running.Running.propose.Goals as goal
 
 pub tell-requires-clause-live : goal.tell-requires-clause-live
@@ -36,7 +37,7 @@ tell-requires-clause-there c =
     let n = counted s (run_in c.args.self.now) r k in
     let d = get_there r.clients c.args.index (omega (arith, n.table, c.requires.there)) in
     let o = c.in_ok-offer.ensures.ok r d.0 k d.1 in
-    subst (λ (x : Clients). c.args.index < length x.table.items) (sym o.clients) c.requires.there
+    subst (λ (x : Clients). c.args.index < length (values x.table)) (sym o.clients) c.requires.there
 
 pub tell-requires-clause-fits : goal.tell-requires-clause-fits
 tell-requires-clause-fits c = λ v e.
@@ -47,7 +48,7 @@ tell-requires-clause-fits c = λ v e.
     let d = get_there r.clients c.args.index (omega (arith, n.table, c.requires.there)) in
     let o = c.in_ok-offer.ensures.ok r d.0 k d.1 in
     let h = sits s (run_in c.args.self.now) r c.args.index v k c.requires.there
-    (subst (λ (x : Clients). slice_get x.table.items c.args.index ≡ Some v) o.clients e) in
+    (subst (λ (x : Clients). slice_get (values x.table) c.args.index ≡ Some v) o.clients e) in
     let i = c.in_ok-offer.ensures.ok r h.client k h.there in
     elsewhere_fits s r v h.seen h.client i.entry h.is i.entry_is (c.requires.asks r h.client k h.there)
 
@@ -73,7 +74,7 @@ tell-requires-in-Full-clause-there c =
     let n = counted s (run_in c.args.self.now) r k in
     let d = get_there r.clients c.args.index (omega (arith, n.table, c.requires.there)) in
     let o = c.in_ok-offer.ensures.ok r d.0 k d.1 in
-    subst (λ (x : Clients). c.args.index < length x.table.items) (sym o.clients) c.requires.there
+    subst (λ (x : Clients). c.args.index < length (values x.table)) (sym o.clients) c.requires.there
 
 pub tell-requires-in-Full-clause-fits : goal.tell-requires-in-Full-clause-fits
 tell-requires-in-Full-clause-fits c = λ v e.
@@ -84,7 +85,7 @@ tell-requires-in-Full-clause-fits c = λ v e.
     let d = get_there r.clients c.args.index (omega (arith, n.table, c.requires.there)) in
     let o = c.in_ok-offer.ensures.ok r d.0 k d.1 in
     let h = sits s (run_in c.args.self.now) r c.args.index v k c.requires.there
-    (subst (λ (x : Clients). slice_get x.table.items c.args.index ≡ Some v) o.clients e) in
+    (subst (λ (x : Clients). slice_get (values x.table) c.args.index ≡ Some v) o.clients e) in
     let i = c.in_ok-offer.ensures.ok r h.client k h.there in
     full_fits s r v h.seen h.client i.entry c.in-Full.entries h.is i.entry_is (c.requires.asks r h.client k h.there)
 
@@ -100,6 +101,13 @@ returns-in_ok-tell-in-Elsewhere c = record {
         subst (λ (x : Proposed Lists). RunsAs s (run_in c.tell.new.self) (proposed (cluster_of s) c.args.line r c.args.index d x)) (sym q.becomes)
             (c.in_ok-tell-in-Elsewhere.ensures.ok r d mid there),
       );
+  lowers =
+      let r = c.requires.live.run in
+      let k = c.requires.live.runs_as in
+      let n = counted c.args.setup.now (run_in c.args.self.now) r k in
+      let d = get_there r.clients c.args.index (omega (arith, n.table, c.requires.there)) in
+      let o = c.in_ok-offer.ensures.ok r d.0 k d.1 in
+      subst (λ (x : Clients). left_in c.tell.new.self.clients < left_in x) o.clients c.in_ok-tell-in-Elsewhere.ensures.lowers;
 }
 
 pub returns-in_ok-tell-in-Full : goal.returns-in_ok-tell-in-Full
@@ -114,6 +122,13 @@ returns-in_ok-tell-in-Full c = record {
         subst (λ (x : Proposed Lists). RunsAs s (run_in c.tell-in-Full.new.self) (proposed (cluster_of s) c.args.line r c.args.index d x)) (sym q.becomes)
             (c.in_ok-tell-in-Full.ensures.ok r d mid there),
       );
+  lowers =
+      let r = c.requires.live.run in
+      let k = c.requires.live.runs_as in
+      let n = counted c.args.setup.now (run_in c.args.self.now) r k in
+      let d = get_there r.clients c.args.index (omega (arith, n.table, c.requires.there)) in
+      let o = c.in_ok-offer.ensures.ok r d.0 k d.1 in
+      subst (λ (x : Clients). left_in c.tell-in-Full.new.self.clients < left_in x) o.clients c.in_ok-tell-in-Full.ensures.lowers;
 }
 
 pub change-requires-clause-there : goal.change-requires-clause-there
@@ -124,7 +139,7 @@ change-requires-clause-there c =
     let n = counted s (run_in c.args.self.now) r k in
     let d = get_there r.clients c.args.index (omega (arith, n.table, c.requires.there)) in
     let o = c.in_ok-offer.ensures.ok r d.0 k d.1 in
-    subst (λ (x : Clients). c.args.index < length x.table.items) (sym o.clients) c.requires.there
+    subst (λ (x : Clients). c.args.index < length (values x.table)) (sym o.clients) c.requires.there
 
 pub change-requires-clause-served : goal.change-requires-clause-served
 change-requires-clause-served c =
@@ -178,4 +193,14 @@ returns-in_ok-change-in-Placed c = record {
           told = c.offer.new.self.told;
         }) (proposed (cluster_of s) c.args.line r i d x)) (sym q.becomes) all,
       );
+  lowers =
+      let s = c.args.setup.now in
+      let r = c.requires.live.run in
+      let k = c.requires.live.runs_as in
+      let v = get_there (values c.args.self.now.clients.table) c.args.index c.requires.there in
+      let h = sits s (run_in c.args.self.now) r c.args.index v.0 k c.requires.there v.1 in
+      let o = c.in_ok-offer.ensures.ok r h.client k h.there in
+      let none = unplaced s r v.0 h.seen h.client o.entry h.is o.entry_is (c.requires.asks r h.client k h.there) in
+      let there = subst (λ (x : Clients). slice_get (values x.table) c.args.index ≡ Some v.0) (sym o.clients) v.1 in
+      subst (λ (x : Clients). left_in c.change.new.self < left_in x) o.clients (c.in_ok-change-in-Placed.ensures.lowers v.0 there none);
 }

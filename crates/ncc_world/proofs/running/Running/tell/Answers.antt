@@ -1,21 +1,31 @@
-use Rattle.std.proofs.Common.{◌≡◌, ◌<◌, ◌≤◌, ◌+◌, ◌∙◌, ap, sym, length, arith, refl, get_or, List, ◌∷◌, [], ◌++◌, Some, None, map}
-use Rattle.std.proofs.Common.{subst}
+use Rattle.std.proofs.Common.{◌∙◌, ap, sym, length, arith, refl, List, ◌∷◌, [], ◌++◌}
+use Rattle.std.proofs.Common.{subst, IsTrue}
 use Rattle.std.specs.Prelude.{slice_set}
 use Rattle.std.proofs.lemmas.Result.{on_ok_weaker}
+use Rattle.indexmap.specs.IndexMap.{values}
 use Rattle.ncc_session.specs.declared.ask.Fact.{Fact}
+use Rattle.ncc_session.specs.Talk.{asked}
 use Rattle.ncc_clients.specs.declared.told.Told.{Told}
 use Rattle.ncc_clients.specs.Run.{with_fact}
+use Rattle.ncc_world.specs.Spellable.{rows_fit}
 use Rattle.ncc_world.specs.World.{AreServed}
 use Rattle.ncc_world.specs.Parts.{run_in, clients_in}
 use Rattle.ncc_world.proofs.Keeping.{get_there}
-use Rattle.std.proofs.lemmas.Option.{slice_get-get_or}
 use Rattle.ncc_world.proofs.Turning.{counted, seen_at}
+use Rattle.ncc_world.proofs.Spelling.{told_rows}
 use Rattle.ncc_world.proofs.running.Running.tell.Goals as goal
 
 pub shown-requires : goal.shown-requires
 shown-requires c =
     let n = counted c.args.setup.now (run_in c.args.self.now) c.requires.live.run c.requires.live.runs_as in
     record { there = omega (arith, n.table, n.seen, c.requires.there) }
+
+pub push-requires : goal.push-requires
+push-requires c =
+    let v = get_there (values c.args.self.now.clients.table) c.args.index c.requires.there in
+    record {
+      fits = subst (λ (x : Fact). IsTrue (rows_fit x)) (sym c.in_ok-copy.ensures.equal) (told_rows (asked v.0.conn) c.args.fact (c.requires.fits v.0 v.1));
+    }
 
 pub returns : goal.returns
 returns c = record {
@@ -34,4 +44,6 @@ returns c = record {
             ∙ ap (λ n. c.args.self.now.told ++ (record { line = c.args.line; conn = n; fact = c.args.fact } ∷ [])) number
             ∙ ap (λ (l : List Told). l ++ (record { line = c.args.line; conn = d.number; fact = c.args.fact } ∷ [])) k.told;
       }) c.change.ensures.ok;
+  lowers = on_ok_weaker c.change.result (λ f.
+      let v = get_there (values c.args.self.now.clients.table) c.args.index c.requires.there in f v.0 v.1) c.change.ensures.lowers;
 }

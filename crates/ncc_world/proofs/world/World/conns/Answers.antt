@@ -1,4 +1,4 @@
-use Rattle.std.proofs.Common.{◌≡◌, ◌∙◌, ap}
+use Rattle.std.proofs.Common.{◌∙◌, ap}
 use Rattle.ncc_world.specs.World.{Kept}
 use Rattle.ncc_world.proofs.Keeping.{seen_all}
 use Rattle.ncc_world.proofs.world.World.conns.Goals as goal

@@ -1,4 +1,4 @@
-use Rattle.std.proofs.Common.{◌≡◌, ap, sym, subst, refl}
+use Rattle.std.proofs.Common.{sym, subst, refl}
 use Rattle.ncc_world.specs.Happening.{Happens}
 use Rattle.ncc_world.specs.World.{Kept, Stands}
 use Rattle.ncc_world.specs.Inner.{kept_of}
