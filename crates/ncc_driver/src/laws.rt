@@ -1,0 +1,69 @@
+//! What holds of every session, whatever it is told.
+
+ghost use Rattle.ncc_driver.specs.Laws.{CutsChangeOnlyReceives, PiecesMayBeCut, EmptyPiecesMayCome, AlikeActAlike};
+ghost use Rattle.ncc_driver.specs.Laws.{PresentsLast, KeepsLast, OthersChangeNothing, LostWhileLinked};
+ghost use Rattle.ncc_driver.specs.LawsAnswers.{BadOutsideGrammar, FailedByCode, CommittedByBookmark};
+ghost use Rattle.ncc_driver.specs.LawsEnds.{ActsByMoments, EndsExactly};
+ghost use Rattle.ncc_driver.specs.Worked.{DelaysDouble, SpentAtThirtySeconds, NextWorkBeginsAnew, RoutersTakeTurns};
+ghost use Rattle.ncc_driver.specs.Worked.{OthersArePassedOver, HandshakeInPieces, AnotherVersion};
+ghost use Rattle.ncc_driver.specs.Worked.{TransientKeepsTable, NoLeaderDropsTable, OtherCodesEnd, IgnoredIsBad};
+ghost use Rattle.ncc_driver.specs.Worked.{NextWorkPresents, TableEnds, NoTimeServesOnce, BrokenCommit};
+
+/// How the bytes of answers were cut changes nothing but Receives.
+pub fn cuts_change_only_receives()
+    ensures cuts { CutsChangeOnlyReceives }
+    ensures pieces { PiecesMayBeCut }
+    ensures empty { EmptyPiecesMayCome }
+    ensures alike { AlikeActAlike }
+{}
+
+/// Each attempt that presents bookmarks presents exactly that of the session's last success, or before that the given ones.
+pub fn presents_last()
+    ensures presents { PresentsLast }
+    ensures keeps { KeepsLast }
+{}
+
+/// A work ends exactly where there is a cause: COMMIT was answered, an attempt failed that may be tried again and too long has passed,
+/// a code is not tried again, or a message is no answer.
+pub fn ends_exactly()
+    ensures acts { ActsByMoments }
+    ensures ends { EndsExactly }
+{}
+
+/// What an answer tells, by the grammar of answers: it is bad exactly where it is no answer of the request.
+pub fn tells_by_grammar()
+    ensures bad { BadOutsideGrammar }
+    ensures failed { FailedByCode }
+    ensures committed { CommittedByBookmark }
+{}
+
+/// An input that is not waited for changes nothing, and Lost is waited for exactly while a link is there.
+pub fn waits_exactly()
+    ensures others { OthersChangeNothing }
+    ensures lost { LostWhileLinked }
+{}
+
+/// Worked runs that come to no transaction: delays, the end of trying again, the next work, routers in turn, inputs that are passed over,
+/// and handshakes.
+pub fn worked_runs()
+    ensures delays { DelaysDouble }
+    ensures spent { SpentAtThirtySeconds }
+    ensures anew { NextWorkBeginsAnew }
+    ensures turns { RoutersTakeTurns }
+    ensures others { OthersArePassedOver }
+    ensures pieces { HandshakeInPieces }
+    ensures version { AnotherVersion }
+{}
+
+/// Worked runs of transactions: what follows three codes and an answer of nothing, whom the work behind a commit goes to and what it
+/// presents, and a link that breaks during COMMIT.
+pub fn worked_works()
+    ensures transient { TransientKeepsTable }
+    ensures leaderless { NoLeaderDropsTable }
+    ensures refused { OtherCodesEnd }
+    ensures ignored { IgnoredIsBad }
+    ensures presents { NextWorkPresents }
+    ensures ended { TableEnds }
+    ensures once { NoTimeServesOnce }
+    ensures broken { BrokenCommit }
+{}
