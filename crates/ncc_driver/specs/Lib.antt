@@ -1,0 +1,12 @@
+pub mod Work
+pub mod Works
+pub mod Config
+pub mod Line
+pub mod Requests
+pub mod Answers
+pub mod State
+pub mod Keeping
+pub mod Attempts
+pub mod Session
+pub mod Talk
+pub mod RowText
