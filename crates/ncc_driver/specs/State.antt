@@ -5,6 +5,9 @@ use Rattle.rand_pcg.specs.Lcg.{Lcg}
 use Rattle.rand_pcg.specs.Pcg.{pcg32_of_seed}
 use Rattle.ncc_driver.specs.declared.config.SessionConfig.{SessionConfig}
 use Rattle.ncc_driver.specs.declared.standing.Core.{Core}
+use Rattle.ncc_driver.specs.declared.standing.Asked.{Asked}
+use Rattle.ncc_driver.specs.declared.standing.Asked.TheVariants as a
+use Rattle.ncc_driver.specs.declared.standing.Stage.{Stage}
 use Rattle.ncc_driver.specs.declared.standing.Stage.TheVariants as stage
 use Rattle.ncc_driver.specs.declared.action.Action.{Action}
 use Rattle.ncc_driver.specs.Work.{Row}
@@ -54,14 +57,25 @@ MakesAnew turn old new before after =
     (told : Option (List (List Row))) → let t = turn (record { core = old; told = told }) in
     (t.place ≡ record { core = new; told = None }) × (after ≡ before ++ t.actions)
 
--- A work stands behind the rows of an attempt, from where it was started.
+-- A work stands behind the rows of the running attempt, from where it was started.
 abbrev pub StandsBehind : (List (List Row) → Type 0) → Option (List (List Row)) → Type 0
 StandsBehind stands (Some told) = stands told
-StandsBehind stands None = Unit {0}
+StandsBehind stands None = ⊥
 
--- the same where the work goes on with it
+-- the same while an answer of its transaction is awaited; before, nothing is said of the work
+abbrev pub BehindAsked : Asked → (List (List Row) → Type 0) → Option (List (List Row)) → Type 0
+BehindAsked a.Run stands told = StandsBehind stands told
+BehindAsked a.Pull stands told = StandsBehind stands told
+BehindAsked a.Commit stands told = StandsBehind stands told
+BehindAsked _ stands told = Unit {0}
+
+abbrev pub BehindAt : Stage → (List (List Row) → Type 0) → Option (List (List Row)) → Type 0
+BehindAt (stage.Awaits asked) stands told = BehindAsked asked stands told
+BehindAt _ stands told = Unit {0}
+
+-- the same as `Makes` where the work goes on with it
 abbrev pub MakesWith :
     (List (List Row) → Type 0) → (List (List Row) → Type 0) → (Place → Turned) → Core → Core → List Action → List Action → Type 0
 MakesWith stood stands turn old new before after =
-    (told : Option (List (List Row))) → StandsBehind stood told → let t = turn (record { core = old; told = told }) in
-    (t.place.core ≡ new) × (after ≡ before ++ t.actions) × StandsBehind stands t.place.told
+    (told : Option (List (List Row))) → BehindAt old.stage stood told → let t = turn (record { core = old; told = told }) in
+    (t.place.core ≡ new) × (after ≡ before ++ t.actions) × BehindAt new.stage stands t.place.told

@@ -10,7 +10,7 @@ use Rattle.ncc_driver.specs.declared.standing.Stage.{Stage}
 use Rattle.ncc_driver.specs.declared.standing.Stage.TheVariants as stage
 use Rattle.ncc_driver.specs.declared.action.Action.{Action}
 use Rattle.ncc_driver.specs.declared.action.Input.{Input}
-use Rattle.ncc_driver.specs.State.{StandsBehind}
+use Rattle.ncc_driver.specs.State.{BehindAt}
 use Rattle.ncc_driver.specs.Work.{Row, Job, rows_fit}
 use Rattle.ncc_driver.specs.Line.{Line}
 use Rattle.ncc_driver.specs.Session.{State, Ran, Begun, session, acts, told_in}
@@ -75,10 +75,12 @@ Begins old job now new =
     (config : SessionConfig) (works : List Begun) (out : List Action)
     → Stands old config works out → Stands new config (works ++ begun job now ∷ []) out
 
-abbrev pub Tells : Held → Job → Input → ℕ → Held → Type 0
-Tells old job input now new =
+-- where the work stands behind the rows of the running attempt
+abbrev pub Tells : (List (List Row) → Type 0) → Held → Job → Input → ℕ → Held → Type 0
+Tells stands old job input now new =
     (config : SessionConfig) (works : List Begun) (last : Begun) (out : List Action)
     → last.job ≡ job → Stands old config (works ++ last ∷ []) out
+    → BehindAt old.core.stage stands (told_in config (works ++ last ∷ []))
     → Stands new config (works ++ grown last input now ∷ []) out
 
 abbrev pub TellBreaks : Held → Job → Input → ℕ → Held → Type 0
@@ -88,12 +90,12 @@ TellBreaks old job input now new =
     → Broke new config (works ++ grown last input now ∷ []) out
 
 -- The work stood behind the rows of the running attempt, and stands behind them after the call.
-abbrev pub StaysWith : (List (List Row) → Type 0) → (List (List Row) → Type 0) → Held → Job → Input → ℕ → Type 0
-StaysWith before after old job input now =
+abbrev pub StaysWith : (List (List Row) → Type 0) → (List (List Row) → Type 0) → Held → Job → Input → ℕ → Held → Type 0
+StaysWith before after old job input now new =
     (config : SessionConfig) (works : List Begun) (last : Begun) (out : List Action)
     → last.job ≡ job → Stands old config (works ++ last ∷ []) out
-    → StandsBehind before (told_in config (works ++ last ∷ []))
-    → StandsBehind after (told_in config (works ++ grown last input now ∷ []))
+    → BehindAt old.core.stage before (told_in config (works ++ last ∷ []))
+    → BehindAt new.core.stage after (told_in config (works ++ grown last input now ∷ []))
 
 abbrev pub HandsOut : Held → Action → Held → Type 0
 HandsOut old action new =

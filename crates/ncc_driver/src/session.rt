@@ -126,11 +126,11 @@ impl Session {
         requires later { self.old.core.began ≤ now }
         // From where it was started, the work stands behind some rows that fit.
         requires stands { StandsAt self.old.core.stage (W.stands work.old) }
-        // The last work was told one thing more.
-        ensures ok { OnOk result (Tells self.old (job_by (W.writing work.old) (W.steps work.old)) input now self.new) }
-        // The work stands behind the rows of the running attempt.
+        // The last work was told one thing more, where the work stands behind the rows of the running attempt.
+        ensures ok { OnOk result (Tells (W.stands work.old) self.old (job_by (W.writing work.old) (W.steps work.old)) input now self.new) }
+        // It still stands behind them.
         ensures stands { OnOk result (StaysWith (W.stands work.old) (W.stands work.new) self.old
-            (job_by (W.writing work.old) (W.steps work.old)) input now) }
+            (job_by (W.writing work.old) (W.steps work.old)) input now self.new) }
         ensures stands_still { StandsAt self.new.core.stage (W.stands work.new) }
         ensures writing { W.writing work.new ≡ W.writing work.old }
         ensures steps { W.steps work.new ≡ W.steps work.old }
