@@ -7,6 +7,9 @@ pub mod Answers
 pub mod State
 pub mod Keeping
 pub mod Attempts
+pub mod Ends
 pub mod Session
 pub mod Talk
+pub mod Hearing
 pub mod RowText
+pub mod RowWords

@@ -3,11 +3,12 @@
 ghost use Rattle.std.specs.Prelude.{◌≡◌, ◌++◌, ◌≤◌, IfOk, OnOk, IsTrue, Some, true};
 ghost use Rattle.ncc_driver.specs.Attempts as t;
 ghost use Rattle.ncc_driver.specs.Config.{texts_fit, config_fits};
-ghost use Rattle.ncc_driver.specs.Keeping.{core_keeps, table_fits};
+ghost use Rattle.ncc_driver.specs.Keeping.{as_text, core_keeps, table_fits, told_fits};
+ghost use Rattle.ncc_driver.specs.declared.standing.Stage.TheVariants as stage;
 ghost use Rattle.ncc_driver.specs.State.{Makes, MakesAnew, MakesWith};
 ghost use Rattle.ncc_driver.specs.Requests.{asks};
 ghost use Rattle.ncc_driver.specs.Session.{told_by};
-ghost use Rattle.ncc_driver.specs.Talk.{StandsAsked};
+ghost use Rattle.ncc_driver.specs.Talk.{StandsAsked, StandsAt};
 ghost use Rattle.ncc_driver.specs.Work.{job_by, step_fits, rows_fit};
 ghost use Rattle.ncc_bolt.specs.Writing.{fits_request};
 
@@ -39,7 +40,10 @@ fn connect(
 }
 
 /// The address of a role that a word picks.
-fn picked(table: &Option<Table>, role: Role, word: u32) -> Result<Option<Text>, Memory> {
+fn picked(table: &Option<Table>, role: Role, word: u32) -> Result<Option<Text>, Memory>
+    requires fits { IsTrue (table_fits table.now) }
+    ensures { IfOk result (λ found. t.picked word (t.addresses_in role table.now) ≡ as_text found) }
+{
     let Some(table) = table else {
         return Ok(None);
     };
@@ -70,8 +74,22 @@ fn join_server(
     }
 }
 
+/// The addresses of routers: those of the last table got, or the given ones.
+fn routers<'a>(config: &'a SessionConfig, route: &'a Values) -> &'a Values
+    ensures { result.now ≡ t.or_else route.now config.now.routers }
+{
+    if route.is_empty() {
+        &config.routers
+    } else {
+        route
+    }
+}
+
 /// The router whose turn it is.
-fn router(routers: &Values, connects: u64) -> Result<Option<Text>, Memory> {
+fn router(routers: &Values, connects: u64) -> Result<Option<Text>, Memory>
+    requires fits { IsTrue (texts_fit routers.now) }
+    ensures { IfOk result (λ found. t.picked connects routers.now ≡ as_text found) }
+{
     if routers.is_empty() {
         return Ok(None);
     }
@@ -79,7 +97,7 @@ fn router(routers: &Values, connects: u64) -> Result<Option<Text>, Memory> {
     let place = connects % routers.len() as u64;
     match &routers[place as usize] {
         Value::Text(address) => Ok(Some(address.copy()?)),
-        _ => Ok(None),
+        _ => unreachable!(),
     }
 }
 
@@ -93,12 +111,7 @@ fn join_router(
     requires allowed { IsTrue (config_fits config.now) }
     ensures ok { OnOk result (Makes (λ p. t.joins_router config.now p) core.old core.new queue.old.items queue.new.items) }
 {
-    let routers = if core.route.is_empty() {
-        &config.routers
-    } else {
-        &core.route
-    };
-    let router = router(routers, core.connects)?;
+    let router = router(routers(config, &core.route), core.connects)?;
     core.connects = core.connects.saturating_add(1);
     match router {
         Some(address) => connect(core, Leg::Routing, address, queue),
@@ -106,7 +119,9 @@ fn join_router(
     }
 }
 
-fn is_fresh(table: &Option<Table>, now: u64) -> bool {
+fn is_fresh(table: &Option<Table>, now: u64) -> bool
+    ensures { result ≡ t.is_fresh now table.now }
+{
     match table {
         Some(table) => table.fresh(now),
         None => false,
@@ -199,13 +214,16 @@ fn follow<W: Work>(
     asked: Asked,
     queue: &mut Actions,
 ) -> Result<(), Memory>
+    requires at { core.old.stage ≡ stage.Awaits asked }
     requires keeps { IsTrue (core_keeps core.old) }
     requires allowed { IsTrue (config_fits config.now) }
     requires stands { StandsAsked asked (W.stands work.old) }
     ensures ok { OnOk result (MakesWith (W.stands work.old) (W.stands work.new)
         (λ p. t.follows config.now (job_by (W.writing work.old) (W.steps work.old)) p asked)
         core.old core.new queue.old.items queue.new.items) }
-    ensures keeps { OnOk result (IsTrue (core_keeps core.new)) }
+    ensures stands { OnOk result (StandsAt core.new.stage (W.stands work.new)) }
+    ensures writing { W.writing work.new ≡ W.writing work.old }
+    ensures steps { W.steps work.new ≡ W.steps work.old }
 {
     match asked {
         Asked::Shake(leg) => {
@@ -253,7 +271,8 @@ fn keep_table(
 /// What an item of the link tells of the request.
 fn told_by(alloc: Global, core: &Core, asked: Asked, now: u64, item: Item) -> Result<Told, Memory>
     requires fits { IsTrue (rows_fit core.now.rows) }
-    ensures { IfOk result (λ r. r ≡ told_by asked now core.now.rows item) }
+    ensures exact { IfOk result (λ told. told ≡ told_by asked now core.now.rows item) }
+    ensures fits { IfOk result (λ told. IsTrue (told_fits core.now.rows told)) }
 {
     match item {
         Item::Shaken(bytes) => Ok(shaken(bytes.as_slice())),
@@ -274,6 +293,7 @@ pub fn answer<W: Work>(
     item: Item,
     queue: &mut Actions,
 ) -> Result<(), Memory>
+    requires at { core.old.stage ≡ stage.Awaits asked }
     requires keeps { IsTrue (core_keeps core.old) }
     requires allowed { IsTrue (config_fits config.now) }
     requires stands { StandsAsked asked (W.stands work.old) }
@@ -281,6 +301,7 @@ pub fn answer<W: Work>(
         (λ p. t.behind config.now (job_by (W.writing work.old) (W.steps work.old)) now p asked number
             (told_by asked now core.old.rows item)) core.old core.new queue.old.items queue.new.items) }
     ensures keeps { OnOk result (IsTrue (core_keeps core.new)) }
+    ensures stands { OnOk result (StandsAt core.new.stage (W.stands work.new)) }
     ensures writing { W.writing work.new ≡ W.writing work.old }
     ensures steps { W.steps work.new ≡ W.steps work.old }
 {

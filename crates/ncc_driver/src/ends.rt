@@ -2,16 +2,16 @@
 
 ghost use Rattle.std.specs.Prelude.{◌≡◌, ◌<◌, min, ◌^◌, ◌+◌, ◌*◌, ◌/◌, ◌%◌, IfOk, OnOk, codes};
 ghost use Rattle.ncc_driver.specs.Attempts as t;
+ghost use Rattle.ncc_driver.specs.Ends.{IsNamed};
 ghost use Rattle.ncc_driver.specs.State.{Makes};
 
 use crate::action::{Action, Last, WorkDone, WorkError};
 use crate::standing::{Core, Stage};
 use crate::requests::{Actions, close, put};
 use ncc_bookmark::{Bookmark, BookmarkError};
-use ncc_pack::{Memory, Rows, Text, Value, Values};
+use ncc_pack::{Memory, Text, Value, Values};
 use rand_core::utils::NextWord;
 use std::alloc::{AllocError, Global};
-use std::mem;
 
 // For how long a work is tried again, and the greatest delay, in milliseconds.
 const LONGEST: u64 = 30_000;
@@ -44,7 +44,10 @@ fn place_of(alloc: Global, bookmark: &Text) -> Result<Option<u64>, Memory>
     }
 }
 
-fn place_in(alloc: Global, bookmark: &Text, cluster: u64) -> Result<Option<u64>, Memory> {
+fn place_in(alloc: Global, bookmark: &Text, cluster: u64) -> Result<Option<u64>, Memory>
+    requires named { IsNamed bookmark.now cluster }
+    ensures { IfOk result (λ r. r ≡ t.place_of bookmark.now) }
+{
     match Bookmark::read(alloc, bookmark.as_str(), cluster) {
         Ok(found) => Ok(Some(found.place())),
         Err(BookmarkError::Memory) => Err(AllocError),
@@ -69,7 +72,7 @@ pub fn succeed(
         attempts: core.attempts,
         place: place_of(alloc, &bookmark)?,
         bookmark,
-        rows: mem::replace(&mut core.rows, Rows::new(alloc)),
+        rows: core.rows.copy()?,
     };
     finish(core, Ok(done), queue)
 }

@@ -7,11 +7,13 @@ mod answers;
 mod attempt;
 mod config;
 mod ends;
+mod hear;
 mod link;
 mod requests;
 mod rows;
 mod session;
 mod standing;
+mod turn;
 mod work;
 mod works;
 

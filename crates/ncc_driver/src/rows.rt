@@ -1,6 +1,10 @@
 //! Rows as text.
 
-ghost use Rattle.std.specs.Prelude.{◌≡◌, ◌++◌, map, length, IfOk, OnOk, IsTrue};
+ghost use Rattle.std.specs.Prelude.{◌≡◌, ◌<◌, ◌++◌, ◌∷◌, [], map, IfOk, OnOk, IsTrue};
+ghost use Rattle.std.specs.Option.{option_copied};
+ghost use Rattle.ncc_pack.specs.declared.value.Value.TheVariants as v;
+ghost use Rattle.ncc_pack.specs.Short.{short};
+ghost use Rattle.ncc_driver.specs.RowWords.{word_of};
 ghost use Rattle.ncc_driver.specs.RowText as t;
 ghost use Rattle.ncc_driver.specs.Work as w;
 
@@ -13,8 +17,6 @@ use std::alloc::Global;
 const LEVELS: u8 = 31;
 
 const MAX_WORD: usize = 64;
-
-const DIGITS: &[u8; 16] = b"0123456789abcdef";
 
 /// Says whether rows have a spelling as one list. It takes no memory.
 pub fn rows_fit(rows: &Rows) -> bool
@@ -53,7 +55,9 @@ fn is_word_byte(byte: u8) -> bool
 }
 
 /// The word that rows are, where they are one row of one word.
-fn word_in(rows: &Rows) -> Option<&Text> {
+fn word_in(rows: &Rows) -> Option<&Text>
+    ensures { option_copied result ≡ word_of rows.now }
+{
     match rows.as_slice() {
         [row] => match row.as_slice() {
             [Value::Text(text)] => {
@@ -69,7 +73,10 @@ fn word_in(rows: &Rows) -> Option<&Text> {
     }
 }
 
-fn spelled(alloc: Global, rows: &Rows) -> Result<Bytes, Memory> {
+fn spelled(alloc: Global, rows: &Rows) -> Result<Bytes, Memory>
+    requires fits { IsTrue (w.rows_fit rows.now) }
+    ensures { IfOk result (λ bytes. bytes ≡ short (v.List (map v.List rows.now))) }
+{
     let mut bytes = Bytes::new(alloc);
     encode_list_head(rows.len(), &mut bytes)?;
     for row in rows.as_slice() {
@@ -78,14 +85,49 @@ fn spelled(alloc: Global, rows: &Rows) -> Result<Bytes, Memory> {
     Ok(bytes)
 }
 
-fn as_hex(alloc: Global, rows: &Rows) -> Result<Text, Memory> {
-    let bytes = spelled(alloc, rows)?;
-    let mut text = String::from_str(alloc, "hex ")?;
-    for byte in bytes.as_slice() {
-        text.push(DIGITS[(*byte / 16) as usize] as char)?;
-        text.push(DIGITS[(*byte % 16) as usize] as char)?;
+/// A digit of base 16.
+fn digit(number: u8) -> &'static str
+    requires { number < 16 }
+    ensures { result.now ≡ t.digit number ∷ [] }
+{
+    match number {
+        0 => "0",
+        1 => "1",
+        2 => "2",
+        3 => "3",
+        4 => "4",
+        5 => "5",
+        6 => "6",
+        7 => "7",
+        8 => "8",
+        9 => "9",
+        10 => "a",
+        11 => "b",
+        12 => "c",
+        13 => "d",
+        14 => "e",
+        _ => "f",
     }
-    Text::from_str(alloc, text.as_str())
+}
+
+fn push_hex(bytes: &[u8], text: &mut Text) -> Result<(), Memory>
+    ensures { OnOk result (text.new ≡ text.old ++ t.hex_of bytes.now) }
+{
+    for byte in bytes {
+        text.push_str(digit(*byte / 16))?;
+        text.push_str(digit(*byte % 16))?;
+    }
+    Ok(())
+}
+
+fn as_hex(alloc: Global, rows: &Rows) -> Result<Text, Memory>
+    requires fits { IsTrue (w.rows_fit rows.now) }
+    ensures { IfOk result (λ text. text ≡ t.as_hex rows.now) }
+{
+    let bytes = spelled(alloc, rows)?;
+    let mut text = Text::from_str(alloc, "hex ")?;
+    push_hex(bytes.as_slice(), &mut text)?;
+    Ok(text)
 }
 
 /// Rows as text: `none` where there are none; `word` and a word where they are one row of one text that is 1 to 64 letters, digits, `_`

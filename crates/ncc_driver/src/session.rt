@@ -8,12 +8,11 @@ ghost use Rattle.ncc_driver.specs.Talk.{Stands, Begins, Tells, TellBreaks, Stays
 ghost use Rattle.ncc_driver.specs.Talk.{StandsAt};
 
 use crate::action::{Action, Input};
-use crate::attempt::{answer, attempt};
 use crate::config::SessionConfig;
-use crate::standing::{Asked, Core, Leg, Stage};
-use crate::ends::lose;
 use crate::link::Link;
-use crate::requests::{Actions, shake};
+use crate::requests::Actions;
+use crate::standing::{Core, Stage};
+use crate::turn::turn;
 use crate::work::Work;
 use ncc_pack::{Memory, Rows, Text, Values};
 use rand_core::SeedableRng;
@@ -48,6 +47,12 @@ impl Model for Session {
     ghost coded = { Prim.hlevel (codes, e.the_row.coded) };
 
     ghost view = { λ s. record { spent = s.spent; config = s.config; core = s.core; line = s.link; queue = s.queue.items } };
+
+    ghost use Rattle.std.specs.Prelude.{◌≡◌, false, IsTrue};
+    ghost use Rattle.ncc_driver.specs.Config.{config_fits};
+    ghost use Rattle.ncc_driver.specs.Keeping.{core_keeps};
+
+    ghost invariant = { λ s. IsTrue (config_fits s.config) × (s.spent ≡ false → IsTrue (core_keeps s.core)) };
 }
 
 #[tactic(auto, unfolding(crate::specs::State::words_of, crate::specs::State::new_core))]
@@ -138,73 +143,24 @@ impl Session {
         ensures spent { IsTrue self.old.spent → IsErr result × (self.new ≡ self.old) }
     {
         self.spend()?;
-        self.take(work, input, now)?;
-        self.spent = false;
-        Ok(())
-    }
-
-    fn take<W: Work>(&mut self, work: &mut W, input: Input, now: u64) -> Result<(), Memory> {
-        match (self.core.stage, input) {
-            (Stage::Begun, Input::Start) => self.attempt(work.writes(), now),
-            (Stage::Sleeps, Input::Woken) => self.attempt(work.writes(), now),
-            (Stage::Joins(leg), Input::Connected) => self.open(leg),
-            (Stage::Joins(_), Input::Lost) => lose(&mut self.core, now, &mut self.queue),
-            (Stage::Awaits(_), Input::Lost) => lose(&mut self.core, now, &mut self.queue),
-            (Stage::Awaits(_), Input::Bytes(bytes)) => self.hear(work, bytes.as_slice(), now),
-            _ => Ok(()),
-        }
-    }
-
-    fn attempt(&mut self, writes: bool, now: u64) -> Result<(), Memory> {
-        attempt(
+        match turn(
             self.alloc,
             &self.config,
-            writes,
+            work,
             &mut self.core,
+            &mut self.link,
+            input,
             now,
             &mut self.queue,
-        )
-    }
-
-    // Sends the handshake on a new link.
-    fn open(&mut self, leg: Leg) -> Result<(), Memory> {
-        self.link = Link::new(self.alloc)?;
-        self.core.stage = Stage::Awaits(Asked::Shake(leg));
-        shake(self.alloc, &mut self.queue)
-    }
-
-    // Takes bytes that came, and waits for more where they leave the answer unfinished.
-    fn hear<W: Work>(&mut self, work: &mut W, piece: &[u8], now: u64) -> Result<(), Memory> {
-        let held = self.queue.len();
-        self.link.feed(piece)?;
-        self.answer_all(work, now)?;
-        if self.queue.len() == held {
-            self.queue.push_back(Action::Receive)?;
-        }
-        Ok(())
-    }
-
-    // Goes on as long as an answer is awaited and something whole has come.
-    fn answer_all<W: Work>(&mut self, work: &mut W, now: u64) -> Result<(), Memory> {
-        loop {
-            let Stage::Awaits(asked) = self.core.stage else {
-                return Ok(());
-            };
-            let number = self.link.number();
-            let Some(item) = self.link.take()? else {
-                return Ok(());
-            };
-            answer(
-                self.alloc,
-                &self.config,
-                work,
-                &mut self.core,
-                asked,
-                now,
-                number,
-                item,
-                &mut self.queue,
-            )?;
+        ) {
+            Ok(()) => {
+                self.spent = false;
+                Ok(())
+            }
+            Err(error) => {
+                self.core.stage = Stage::Rests;
+                Err(error)
+            }
         }
     }
 
