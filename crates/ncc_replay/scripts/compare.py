@@ -21,8 +21,10 @@ from second.values import HANDSHAKE, REQUESTS, bookmark, chunked  # noqa: E402
 STATEMENTS = ["RETURN 1", "RETURN $x, 'a' AS b", "RETURM 1", "RETURN $y", "RETURN $x + 'a'", "RETURN 9223372036854775807 + $x",
               "CREATE (:A {k: $x})", "CREATE (n:A {k: 'a', l: $x}) RETURN n", "MERGE (n:A {k: $x}) RETURN n.k", "MERGE (n:A {k: null})",
               "MATCH (n:A) RETURN n.k", "MATCH (n) RETURN n", "MATCH (n) RETURN count(n)", "MATCH (n:A) SET n.k = n.k + $x RETURN n.k",
-              "MATCH (n:A {k: 1}) DELETE n RETURN count(n)", "MATCH (n:Pair {k: 'a'}) SET n.v = $x", "MATCH (n {k: 'a'}) DELETE n", GET, PUT]
-COUNTS = ["MATCH (n) RETURN count(n)", "MERGE (n:A {k: 1}) SET n.c = $x RETURN n", "CREATE (:A {k: 2})", "MATCH (n:A) RETURN n.k, n.c", GET, PUT]
+              "MATCH (n:A {k: 1}) DELETE n RETURN count(n)", "MATCH (n:Pair {k: 'a'}) SET n.v = $x", "MATCH (n {k: 'a'}) DELETE n",
+              GET, PUT]
+COUNTS = ["MATCH (n) RETURN count(n)", "MERGE (n:A {k: 1}) SET n.c = $x RETURN n", "CREATE (:A {k: 2})", "MATCH (n:A) RETURN n.k, n.c",
+          GET, PUT]
 REFUSED = ["get 9 a", "put 1 a/b x", "apply 1 1", "time 0", "close 99", "bytes 1 0", "get 1 a ncc:", "limit 5", "cluster list 1 0 1 0",
            "open 0"]
 DRIVING = ["session", "work", "work", "work", "up", "down"] + ["pump"] * 6 + ["cut"]
@@ -74,7 +76,10 @@ class Maker:
             statement = self.chance.choice(STATEMENTS if self.chance.random() < 0.4 else COUNTS)
             if self.drivers and self.chance.random() < 0.3:
                 statement = self.chance.choice(COUNTERS)
-            params = {"k": "a", "v": self.chance.choice(["x", "y"])} if statement == PUT else {"k": "a"} if statement == GET else {"x": self.value()}
+            if statement == PUT:
+                params = {"k": "a", "v": self.chance.choice(["x", "y"])}
+            else:
+                params = {"k": "a"} if statement == GET else {"x": self.value()}
             fields = [statement, params, self.extra()]
         elif name in ("PULL", "DISCARD"):
             fields = [{"n": self.chance.choice([-1] * 12 + [1] * 6 + [2, 0])}]
