@@ -238,6 +238,13 @@ def unwaited():
     holds("HELLO", b"\xB1\x01" + pack(hello), sent[1][2:-2])
     holds("ROUTE", b"\xB3\x66" + pack({"address": "a:1"}) + pack([]) + pack({}), sent[2][2:-2])
     holds("BEGIN", b"\xB1\x11" + pack({"bookmarks": ["given"], "mode": "w"}), sent[-1][2:-2])
+    made = session()
+    made.begin(driver.get("a"), 0)
+    for step in [*GREETED, table(), *GREETED]:
+        made.on(0, step) if isinstance(step, str) else made.on(0, "bytes", step)
+    holds("BEGIN of a read", b"\xB1\x11" + pack({"bookmarks": [], "mode": "r"}), made.actions[-2][1][2:-2])
+    holds("a Receive behind each Send but GOODBYE", True, all(
+        (later[0] == "receive") == (action[1][3:4] != b"\x02") for action, later in zip(made.actions, made.actions[1:]) if action[0] == "send"))
 
 
 def main():
