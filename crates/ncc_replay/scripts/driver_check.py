@@ -243,8 +243,9 @@ def unwaited():
     for step in [*GREETED, table(), *GREETED]:
         made.on(0, step) if isinstance(step, str) else made.on(0, "bytes", step)
     holds("BEGIN of a read", b"\xB1\x11" + pack({"bookmarks": [], "mode": "r"}), made.actions[-2][1][2:-2])
-    holds("a Receive behind each Send but GOODBYE", True, all(
-        (later[0] == "receive") == (action[1][3:4] != b"\x02") for action, later in zip(made.actions, made.actions[1:]) if action[0] == "send"))
+    pairs = [(action[1], later[0]) for action, later in zip(made.actions, made.actions[1:]) if action[0] == "send"]
+    wanted = [SENT.get(said[3]) != "GOODBYE" for said, _ in pairs]
+    holds("a Receive behind each Send but GOODBYE", wanted, [later == "receive" for _, later in pairs])
 
 
 def main():
