@@ -22,3 +22,5 @@ pub mod Fitting
 pub mod Proposing
 pub mod Happened
 pub mod Fresh
+pub mod Sending
+pub mod Spelling

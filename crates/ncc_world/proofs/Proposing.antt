@@ -95,7 +95,7 @@ kept_by s r old new k m clock clients told = record {
 
 -- ---- a refusal answers the question
 
-writes_by : (list : List Item) (now deadline : ℕ) (b : Bool) (placing : Option Placing) → leaves list now deadline b placing ≡ proposes → b ≡ true
+pub writes_by : (list : List Item) (now deadline : ℕ) (b : Bool) (placing : Option Placing) → leaves list now deadline b placing ≡ proposes → b ≡ true
 writes_by list now deadline true placing e = refl
 writes_by list now deadline false placing e = absurd (cc)
 

@@ -1,6 +1,7 @@
 pub mod Setting
 pub mod Events
 pub mod Requests
+pub mod Spellable
 pub mod Happening
 pub mod Showing
 pub mod World

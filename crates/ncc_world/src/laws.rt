@@ -1,10 +1,13 @@
 //! What holds of every run.
 
 ghost use Rattle.ncc_world.specs.Headline.{EveryRunKeeps, ListKeepsFour, OneRun};
-ghost use Rattle.std.specs.Prelude.{◌≡◌, ℕ, ◌+◌, ◌-◌, ◌<◌, ◌≤◌, true, List, [], ◌∷◌, length, slice_get, Some, None};
+ghost use Rattle.std.specs.Prelude.{◌≡◌, ℕ, ◌+◌, ◌-◌, ◌<◌, ◌≤◌, true, List, [], ◌∷◌, length, slice_get, Some, None, IsTrue};
 ghost use Rattle.ncc_tx.specs.declared.entry.Entry.{Entry};
 ghost use Rattle.ncc_tx.specs.declared.entry.Item.{Item};
+ghost use Rattle.ncc_bookmark.specs.Point.{Point};
+ghost use Rattle.ncc_bolt.specs.Writing.{fits_request};
 ghost use Rattle.ncc_bolt.specs.declared.message.Request.{Request};
+ghost use Rattle.ncc_bolt.specs.declared.message.Request.TheVariants as request;
 ghost use Rattle.ncc_session.specs.Question.{enter};
 ghost use Rattle.ncc_session.specs.declared.ask.Fact.TheVariants as fact;
 ghost use Rattle.ncc_clients.specs.Members.{elsewhere, full, placed, at_of};
@@ -13,6 +16,8 @@ ghost use Rattle.ncc_world.specs.declared.setup.Setup.{Setup};
 ghost use Rattle.ncc_world.specs.declared.event.Event.TheVariants as event;
 ghost use Rattle.ncc_world.specs.declared.error.WorldError.TheVariants as error;
 ghost use Rattle.ncc_world.specs.Setting.{IsSetup, Lists, cluster_of, nobody, list_at, appended, lagging};
+ghost use Rattle.ncc_world.specs.Events.{AreFew, is_word};
+ghost use Rattle.ncc_world.specs.Requests.{get_request, pull, put_request};
 ghost use Rattle.ncc_world.specs.Happening.{ListRun, refusal, own, asks};
 
 /// Members over one list keep what their clients rest on.
@@ -24,6 +29,17 @@ pub fn list_keeps_four()
 pub fn every_run_keeps()
     ensures headline { EveryRunKeeps }
     ensures one { OneRun }
+{}
+
+/// What `put` and `get` send has a spelling: their words are short, and their bookmarks are few.
+pub fn requests_fit()
+    ensures put { (key value : List ℕ) (bookmarks : List Point) → is_word key ≡ true → is_word value ≡ true → AreFew bookmarks
+        → IsTrue (fits_request (put_request key value bookmarks)) }
+    ensures get { (key : List ℕ) (bookmarks : List Point) → is_word key ≡ true → AreFew bookmarks
+        → IsTrue (fits_request (get_request key bookmarks)) }
+    ensures hello { IsTrue (fits_request (request.Hello [])) }
+    ensures pull { IsTrue (fits_request pull) }
+    ensures goodbye { IsTrue (fits_request request.Goodbye) }
 {}
 
 /// Worked cases of members over one list: the first entry stands at place 1 in term 1; a member that does not lead takes

@@ -7,6 +7,7 @@ mod config;
 mod error;
 mod event;
 mod laws;
+mod log;
 mod members;
 mod requests;
 mod running;
@@ -14,11 +15,14 @@ mod seen;
 mod served;
 mod setup;
 mod taken;
+mod telling;
 mod world;
 
 pub use error::{Which, WorldError};
 pub use event::{Bookmarks, Event};
-pub use laws::{every_run_keeps, list_keeps_four, worked_events, worked_members, worked_waits};
+pub use laws::{
+    every_run_keeps, list_keeps_four, requests_fit, worked_events, worked_members, worked_waits,
+};
 pub use ncc_apply::{Shelf, Stamp};
 pub use ncc_clients::Told;
 pub use ncc_tx::Entries;

@@ -1,7 +1,8 @@
 //! The members of a world, over one list.
 
-ghost use Rattle.std.specs.Prelude.{◌≡◌, ◌+◌, ◌-◌, ◌<◌, ◌≤◌, ◌++◌, ◌∷◌, [], List, length, take, slice_index_or, slice_set, IfOk, OnOk};
+ghost use Rattle.std.specs.Prelude.{◌≡◌, ◌+◌, ◌-◌, ◌<◌, ◌≤◌, ◌++◌, ◌∷◌, [], List, length, take, slice_index_or, slice_set, IfOk, OnOk, IsTrue};
 ghost use Rattle.ncc_tx.specs.declared.entry.Item.{Item as Items};
+ghost use Rattle.ncc_tx.specs.Items.{entry_allowed};
 ghost use Rattle.ncc_apply.specs.Shelf.{Stands as ShelfStands};
 ghost use Rattle.ncc_clients.specs.Members.{Cluster};
 ghost use Rattle.ncc_clients.specs.Four.{Begins};
@@ -11,19 +12,20 @@ ghost use Rattle.ncc_world.specs.World.{AreMembers};
 ghost use Rattle.ncc_world.specs.Parts.{HasLists, IsProposed, members_in};
 ghost use Rattle.ncc_world.specs.declared.setup.Setup.{Setup as Setups};
 
+use crate::log::Log;
 use crate::seen::{MemberList, MemberSeen, Shown};
 use crate::served::Place;
 use crate::setup::Setup;
 use crate::taken::taken;
 use ncc_apply::{Shelf, View};
 use ncc_pack::{Memory, Sequence};
-use ncc_tx::{Entries, Entry, Item};
+use ncc_tx::{Entry, Item};
 use std::alloc::Global;
 
 /// The one list, what each member has applied of it, and what each member shows.
 #[derive(Drop)]
 pub(crate) struct Members {
-    pub(crate) items: Entries,
+    pub(crate) items: Log,
     pub(crate) shelves: Vec<Shelf>,
     pub(crate) seen: MemberList,
 }
@@ -117,7 +119,7 @@ impl Members {
         ensures new { IfOk result (λ m. AreMembers setup.now (members_in m) (nobody setup.now)) }
     {
         let mut members = Members {
-            items: Sequence::new(alloc),
+            items: Log::new(alloc),
             shelves: Vec::new(alloc),
             seen: Sequence::new(alloc),
         };
@@ -156,6 +158,7 @@ impl Members {
 
     // Member 1 appends an item, and applies it.
     fn append(&mut self, item: Item) -> Result<(), Memory>
+        requires allowed { IsTrue (entry_allowed item.entry) }
         requires lists { (s : Setups) × HasLists s self.old }
         ensures ok { OnOk result ((s : Setups) (lists : Lists) → AreMembers s (members_in self.old) lists →
             AreMembers s (members_in self.new) (slice_set lists 0 (list_at lists 1 ++ (item ∷ [])))) }
@@ -175,6 +178,7 @@ impl Members {
         member: u8,
         entry: &Entry,
     ) -> Result<Proposal, Memory>
+        requires allowed { IsTrue (entry_allowed entry.now) }
         requires lists { HasLists setup.now self.old }
         ensures ok { IfOk result (λ p. (lists : Lists) → AreMembers setup.now (members_in self.old) lists →
             IsProposed setup.now lists ((cluster_of setup.now).propose lists member entry.now) p (members_in self.new)) }
@@ -212,7 +216,7 @@ impl Members {
         let applied = apply_to(
             &mut self.shelves[index],
             &mut seen[index],
-            self.items.as_slice(),
+            self.items.entries().as_slice(),
             from,
             goal,
         );

@@ -2,28 +2,27 @@
 
 ghost use Rattle.std.specs.Prelude.{◌≡◌, ◌++◌, ◌≤◌, map, true, length, IfOk, OnOk, IsTrue};
 ghost use Rattle.ncc_pack.specs.declared.value.Value.TheVariants as v;
+ghost use Rattle.ncc_bolt.specs.Writing.{fits_request};
 ghost use Rattle.ncc_bookmark.specs.Spelling.{text_of};
-ghost use Rattle.ncc_world.specs.Events.{AreOf, AreFew, is_word};
+ghost use Rattle.ncc_world.specs.Events.{AreFew, is_word};
 ghost use Rattle.ncc_world.specs.Requests.{bookmarks_at, client_bytes, get_request, pull, put_request, sent, text_at};
 
 use crate::event::Bookmarks;
 use ncc_bolt::{Request, write_request};
 use ncc_chunk::chunk;
 use ncc_pack::{Bytes, Dict, Memory, Sequence, Text, Value};
-use std::alloc::{AllocError, Global};
+use std::alloc::Global;
 
 // 60 60 B0 17, and four proposals: 4.4 alone (Bolt 4.4, "Handshake").
 const SHAKE: [u8; 20] = [
     0x60, 0x60, 0xB0, 0x17, 0, 0, 4, 4, 0, 0, 0, 0, 0, 0, 0, 0, 0, 0, 0, 0,
 ];
 
-// Appends a request as it is sent. The requests of an event have a spelling, since its words are short.
+// Appends a request as it is sent.
 fn send(alloc: Global, request: &Request, into: &mut Bytes) -> Result<(), Memory>
+    requires fits { IsTrue (fits_request request.now) }
     ensures sent { OnOk result (into.new ≡ into.old ++ sent request.now) }
 {
-    if !request.fits() {
-        return Err(AllocError);
-    }
     let mut message = Bytes::new(alloc);
     write_request(request, &mut message)?;
     chunk(message.as_slice(), into)
@@ -31,7 +30,8 @@ fn send(alloc: Global, request: &Request, into: &mut Bytes) -> Result<(), Memory
 
 // PULL of all rows.
 fn pull(alloc: Global) -> Result<Request, Memory>
-    ensures { IfOk result (λ r. r ≡ pull) }
+    ensures made { IfOk result (λ r. r ≡ pull) }
+    ensures fits { IfOk result (λ r. IsTrue (fits_request r)) }
 {
     let mut extra = Sequence::new(alloc);
     extra.push((Text::from_str(alloc, "n")?, Value::Int(-1)))?;
@@ -40,7 +40,8 @@ fn pull(alloc: Global) -> Result<Request, Memory>
 
 /// All that a client sends for one statement: the handshake, HELLO, the statement, PULL of all rows, and GOODBYE.
 pub(crate) fn client_bytes(alloc: Global, request: &Request) -> Result<Bytes, Memory>
-    ensures { IfOk result (λ b. b ≡ client_bytes request.now) }
+    requires fits { IsTrue (fits_request request.now) }
+    ensures bytes { IfOk result (λ b. b ≡ client_bytes request.now) }
 {
     let mut bytes = Bytes::from_slice(alloc, &SHAKE)?;
     let hello = Request::Hello {
@@ -88,7 +89,10 @@ pub(crate) fn put_request(
     value: &Text,
     bookmarks: &Bookmarks,
 ) -> Result<Request, Memory>
-    ensures { IfOk result (λ r. r ≡ put_request key.now value.now bookmarks.now) }
+    requires words { (is_word key.now ≡ true) × (is_word value.now ≡ true) }
+    requires few { AreFew bookmarks.now }
+    ensures made { IfOk result (λ r. r ≡ put_request key.now value.now bookmarks.now) }
+    ensures fits { IfOk result (λ r. IsTrue (fits_request r)) }
 {
     let mut params = Sequence::new(alloc);
     params.push(text_at(alloc, "k", key)?)?;
@@ -106,7 +110,10 @@ pub(crate) fn get_request(
     key: &Text,
     bookmarks: &Bookmarks,
 ) -> Result<Request, Memory>
-    ensures { IfOk result (λ r. r ≡ get_request key.now bookmarks.now) }
+    requires word { is_word key.now ≡ true }
+    requires few { AreFew bookmarks.now }
+    ensures made { IfOk result (λ r. r ≡ get_request key.now bookmarks.now) }
+    ensures fits { IfOk result (λ r. IsTrue (fits_request r)) }
 {
     let mut params = Sequence::new(alloc);
     params.push(text_at(alloc, "k", key)?)?;

@@ -1,6 +1,7 @@
 //! The run of a world.
 
 ghost use Rattle.std.specs.Prelude.{◌≡◌, ◌≢◌, ◌+◌, ◌<◌, length, Some, None, true, slice_get, IfOk, OnOk, IsTrue};
+ghost use Rattle.ncc_bolt.specs.Writing.{fits_request};
 ghost use Rattle.ncc_session.specs.Talk.{asked, fits_at};
 ghost use Rattle.ncc_clients.specs.Run.{Client, reply, proposes, told_to, opened, moved};
 ghost use Rattle.ncc_clients.specs.Turn.{acts, Settles};
@@ -17,12 +18,12 @@ use crate::error::WorldError;
 use crate::event::Event;
 use crate::members::{Members, Proposal};
 use crate::requests::{client_bytes, get_request, put_request};
-use crate::seen::ToldList;
 use crate::served::{Change, question};
 use crate::setup::Setup;
+use crate::telling::Telling;
 use ncc_bolt::Request;
 use ncc_clients::Told;
-use ncc_pack::{Bytes, Memory, Sequence};
+use ncc_pack::{Bytes, Memory};
 use ncc_session::{Ask, Fact};
 use ncc_wait::Outcome;
 use std::alloc::{AllocError, Global};
@@ -33,7 +34,7 @@ pub(crate) struct Running {
     pub(crate) clock: u64,
     pub(crate) members: Members,
     pub(crate) clients: Clients,
-    pub(crate) told: ToldList,
+    pub(crate) told: Telling,
 }
 
 // The lower of two numbers.
@@ -59,7 +60,7 @@ impl Running {
             clock: 0,
             members,
             clients,
-            told: Sequence::new(alloc),
+            told: Telling::new(alloc),
         })
     }
 
@@ -316,6 +317,7 @@ impl Running {
         member: u8,
         request: &Request,
     ) -> Result<(), Memory>
+        requires fits { IsTrue (fits_request request.now) }
         requires allowed { IsSetup setup.now }
         requires live { HasRun setup.now self.old }
         requires there { (r : ListRun) → RunsAs setup.now (run_in self.old) r → is_member r member ≡ true }

@@ -8,6 +8,7 @@ ghost use Rattle.ncc_world.specs.declared.error.WorldError.{WorldError as WorldE
 ghost use Rattle.ncc_world.specs.declared.error.Which.{Which as Limits};
 ghost use Rattle.ncc_world.specs.Setting.{IsSetup, list_at};
 ghost use Rattle.ncc_world.specs.Events.{MayHappen};
+ghost use Rattle.ncc_world.specs.Spellable.{AllAllowed, AllFit};
 ghost use Rattle.ncc_world.specs.Happening.{ListRun, Happens, start_of, refusal, is_member};
 ghost use Rattle.ncc_world.specs.Showing.{members_of, conns_of};
 ghost use Rattle.ncc_world.specs.World.{Stands, past, spent, is_refusal};
@@ -123,8 +124,10 @@ impl World {
     /// The facts that were told, the first first. It takes no memory.
     pub fn told(&self) -> &ToldList
         ensures told { (r : ListRun) → Stands self.now r → result.now ≡ r.told }
+        // Their rows keep the limits of one step, so that they have a spelling, however the events went.
+        ensures fit { AllFit result.now }
     {
-        &self.run.told
+        self.run.told.facts()
     }
 
     /// What each member shows, member 1 first. It takes no memory.
@@ -144,8 +147,10 @@ impl World {
     /// The history: the longest list that a member has applied. It takes no memory.
     pub fn history(&self) -> &Entries
         ensures history { (r : ListRun) → Stands self.now r → result.now ≡ r.history }
+        // Each entry has a spelling, of at most 1,048,576 bytes, however the events went.
+        ensures allowed { AllAllowed result.now }
     {
-        &self.run.members.items
+        self.run.members.items.entries()
     }
 
     /// What a member shows of what it has applied; none where there is no such member. It takes no memory.

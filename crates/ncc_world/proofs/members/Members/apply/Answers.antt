@@ -37,7 +37,7 @@ returns-clause-ok c = λ s lists k far.
     let goal_is : goal ≡ min (from + c.args.count) (length items) = omega arith in
     let shown : c.from_vec.result ≡ slice_set seen i n =
     c.from_vec.ensures.same ∙ ap (λ (l : List MemberSeen). slice_set l i n) c.taken-seen.ensures.same in
-    let same = c.as_slice.ensures.same in
+    let same = c.as_slice.ensures.same ∙ c.entries.ensures.same in
     subst (λ (l : List MemberSeen). AreMembers s (kept items (slice_set shelves i y) l) (lagging lists c.args.member c.args.count)) (sym shown)
     (lagged s items shelves seen lists i c.args.member c.args.count from goal x y m n k far refl
     (omega (arith, c.requires.there)) c.index_mut.ensures.value

@@ -9,12 +9,24 @@ use Rattle.ncc_world.specs.Parts.{run_in, IsProposed, members_in}
 use Rattle.ncc_world.specs.Setting.{cluster_of}
 use Rattle.ncc_world.proofs.Keeping.{asked_is}
 use Rattle.ncc_world.proofs.Turning.{counted, here, client_is, reply_none, reply_some, no_enter, no_run, no_route, no_wait}
+use Rattle.ncc_world.proofs.Spelling.{may_propose}
 use Rattle.ncc_world.proofs.running.Running.offer.Goals as goal
 
 pub shown-requires : goal.shown-requires
 shown-requires c =
     let n = counted c.args.setup.now (run_in c.args.self.now) c.requires.live.run c.requires.live.runs_as in
     record { there = omega (arith, n.table, n.seen, c.requires.there) }
+
+pub propose-requires-clause-allowed : goal.propose-requires-clause-allowed
+propose-requires-clause-allowed c =
+    let s = c.args.setup.now in
+    let k = c.requires.live.runs_as in
+    let r = c.requires.live.run in
+    let v = c.index.result.now in
+    let seen = c.shown.result.now in
+    let h = here s (run_in c.args.self.now) r c.args.index v seen k c.requires.there c.index.ensures c.shown.ensures.shown in
+    let asked = sym (asked_is s v seen h.client h.is.kept) ∙ c.in-Some.ensures.some ∙ ap (λ (q : Ask). Some (asks_of q)) c.in-Leave.is in
+    may_propose s r v seen h.client c.in-Leave.entry h.is asked (c.requires.asks r h.client k h.there)
 
 pub returns-in-Enter : goal.returns-in-Enter
 returns-in-Enter c = record {

@@ -10,12 +10,18 @@ use Rattle.ncc_world.specs.Parts.{run_in, clients_in}
 use Rattle.ncc_world.proofs.Keeping.{get_there}
 use Rattle.std.proofs.lemmas.Option.{slice_get-get_or}
 use Rattle.ncc_world.proofs.Turning.{counted, seen_at}
+use Rattle.ncc_world.proofs.Spelling.{told_rows}
 use Rattle.ncc_world.proofs.running.Running.tell.Goals as goal
 
 pub shown-requires : goal.shown-requires
 shown-requires c =
     let n = counted c.args.setup.now (run_in c.args.self.now) c.requires.live.run c.requires.live.runs_as in
     record { there = omega (arith, n.table, n.seen, c.requires.there) }
+
+pub push-requires : goal.push-requires
+push-requires c =
+    let v = get_there c.args.self.now.clients.table.items c.args.index c.requires.there in
+    record { fits = told_rows _ c.args.fact (c.requires.fits v.0 v.1) }
 
 pub returns : goal.returns
 returns c = record {
