@@ -2,19 +2,24 @@
 use Rattle.std.proofs.Common.{◌≡◌, ◌≢◌, ℕ, zero, suc, ◌+◌, ◌<◌, ◌≤◌, ◌==◌, Bool, true, false, ◌&&◌, cond, List, [], ◌∷◌, ◌++◌, length}
 use Rattle.std.proofs.Common.{map, drop, get_or}
 use Rattle.std.proofs.Common.{Option, None, Some, refl, ap, sym, ◌∙◌, subst, arith, codes}
-use Rattle.std.specs.Prelude.{slice_get, nat_eq}
-use Rattle.std.specs.List.{flat_map}
+use Rattle.std.specs.Prelude.{slice_get, nat_eq, nat_le, IsTrue}
+use Rattle.std.specs.List.{All, flat_map, list_all}
 use Rattle.std.specs.Str.{bytes_eq}
 use Rattle.std.proofs.Common.{◌-◌, add-one, append_assoc, pos}
-use Rattle.std.proofs.lemmas.Bool.{ne_eqb}
+use Rattle.std.proofs.lemmas.Bool.{leb-true, ne_eqb}
 use Rattle.std.proofs.lemmas.List.{append-nil, length-map}
 use Rattle.std.proofs.Math.ListN.{drop_of_length-le}
 use Rattle.ncc_pack.specs.declared.value.Value.{Value}
 use Rattle.ncc_pack.specs.declared.value.Value.TheVariants as v
 use Rattle.ncc_pack.specs.Spells.{lists}
+use Rattle.ncc_pack.specs.Fits.{fits}
+use Rattle.ncc_pack.specs.Limits.{max_size}
 use Rattle.ncc_pack.specs.Short.{concat, head, list, short}
 use Rattle.ncc_pack.proofs.Loops.{short_list}
-use Rattle.ncc_tx.specs.Spelled.{rows_value}
+use Rattle.ncc_store.specs.Rows.{few, max_bytes, max_row, max_rows, row_keeps, row_len, rows_keep, rows_len}
+use Rattle.ncc_tx.specs.Items.{entry_allowed, max_entry}
+use Rattle.ncc_tx.specs.Spelled.{entry_fits, rows_value, spelled}
+use Rattle.ncc_tx.specs.declared.entry.Entry.{Entry}
 use Rattle.ncc_tx.specs.declared.entry.Item.{Item}
 use Rattle.ncc_tx.specs.declared.stamp.Stamp.{Stamp}
 use Rattle.ncc_tx.specs.State.{stamps, stamps_from, after, stamp_at}
@@ -51,6 +56,27 @@ rows_short rows =
     ∙ (ap (λ n. head lists n ++ concat (map short (map v.List rows))) (length-map (map v.List rows) short ∙ length-map rows v.List)
     ∙ ap (λ l. head lists (length rows) ++ l) (rows_concat rows)))
 
+-- rows within the limits of one step are few, and each fits
+both : (a b : Bool) → IsTrue (a && b) → IsTrue a × IsTrue b
+both true true h = (refl, refl)
+both true false h = absurd (cc)
+both false b h = absurd (cc)
+
+each_fits : (rows : List (List Value)) → IsTrue (list_all row_keeps rows) → All (λ row. IsTrue (fits (v.List row))) rows
+each_fits [] h i d lt = absurd (omega arith)
+each_fits (row ∷ rows) h zero d lt =
+    (both (fits (v.List row)) (nat_le (row_len row) max_row) (both (row_keeps row) (list_all row_keeps rows) h).0).0
+each_fits (row ∷ rows) h (suc i) d lt = each_fits rows (both (row_keeps row) (list_all row_keeps rows) h).1 i d (omega arith)
+
+pub rows_fit : (rows : List (List Value)) → IsTrue (rows_keep rows) → All (λ row. IsTrue (fits (v.List row))) rows
+rows_fit rows h = each_fits rows (both (list_all row_keeps rows) (few (length rows) (rows_len rows)) h).0
+
+pub rows_few : (rows : List (List Value)) → IsTrue (rows_keep rows) → length rows ≤ max_size
+rows_few rows h =
+    let f = (both (list_all row_keeps rows) (few (length rows) (rows_len rows)) h).1 in
+    let n : length rows ≤ max_rows = leb-true (length rows) max_rows (both (nat_le (length rows) max_rows) (nat_le (rows_len rows) max_bytes) f).0 in
+    omega (arith, n)
+
 pub rows_none : rows_text [] ≡ codes " none"
 unfolding rows_text
 rows_none = refl
@@ -76,6 +102,12 @@ rows_other ((v.Bool b ∷ xs) ∷ rows) some other = refl
 rows_other ((v.Int z ∷ xs) ∷ rows) some other = refl
 rows_other ((v.Bytes b ∷ xs) ∷ rows) some other = refl
 rows_other ((x ∷ xs) ∷ rows) some other = refl
+
+-- ---- entries
+
+pub allowed_fits : (entry : Entry) → IsTrue (entry_allowed entry) → IsTrue (entry_fits entry)
+unfolding entry_allowed
+allowed_fits entry h = (both (entry_fits entry) (nat_le (length (spelled entry)) max_entry) h).0
 
 -- ---- places
 

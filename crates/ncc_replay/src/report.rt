@@ -3,12 +3,14 @@
 
 ghost use Rattle.std.specs.Prelude.{◌≡◌, ◌≢◌, ◌++◌, ◌∷◌, [], OnOk, codes, length, ◌+◌, true, false, ℕ, List, IfOk, IfSome, IfNone};
 ghost use Rattle.std.specs.Prelude.{Some, None};
-ghost use Rattle.std.specs.Prelude.{◌&&◌};
+ghost use Rattle.std.specs.Prelude.{◌&&◌, IsTrue};
 ghost use Rattle.std.specs.Str.{bytes_eq};
-ghost use Rattle.std.specs.List.{flat_map};
+ghost use Rattle.std.specs.List.{All, flat_map};
 ghost use Rattle.ncc_pack.specs.declared.value.Value.TheVariants as v;
+ghost use Rattle.ncc_pack.specs.Fits.{fits};
 ghost use Rattle.ncc_pack.specs.Short.{short};
-ghost use Rattle.ncc_tx.specs.Spelled.{rows_value, spelled};
+ghost use Rattle.ncc_store.specs.Rows.{rows_keep};
+ghost use Rattle.ncc_tx.specs.Spelled.{entry_fits, rows_value, spelled};
 ghost use Rattle.ncc_tx.specs.State.{stamps};
 ghost use Rattle.ncc_tx.specs.declared.stamp.Stamp.{Stamp as OneStamp};
 ghost use Rattle.ncc_store.specs.declared.step.Step.{Step as OneStep};
@@ -16,6 +18,7 @@ ghost use Rattle.ncc_apply.specs.View.{stamp_of};
 ghost use Rattle.ncc_world.specs.Requests.{put_source};
 ghost use Rattle.ncc_world.specs.Events.{is_word};
 ghost use Rattle.ncc_world.specs.Happening.{ListRun};
+ghost use Rattle.ncc_world.specs.Spellable.{AllAllowed, AllFit, rows_fit};
 ghost use Rattle.ncc_world.specs.World.{Stands};
 ghost use Rattle.ncc_replay.specs.Report.{spaced, rows_text, rows_hex, fault_text, fact_text, fact_line, role_text, member_line};
 ghost use Rattle.ncc_replay.specs.Report.{conn_state, conn_line, out_text, out_line, parts_of, put_parts, entry_text, valid_text};
@@ -25,12 +28,10 @@ ghost use Rattle.ncc_replay.specs.Line.{hex};
 use crate::hex::append_hex;
 use crate::line::is_word;
 use itoa::Buffer;
-use ncc_pack::{
-    Bytes, MAX_SIZE, Rows, Text, Value, Values, encode_list_head, encode_values, values_fit,
-};
+use ncc_pack::{Bytes, Rows, Text, Value, Values, encode_list_head, encode_values};
 use ncc_session::Fact;
 use ncc_store::{RunFault, Step, Steps};
-use ncc_tx::{Entry, Item, Stamp, entry_bytes, entry_fits};
+use ncc_tx::{Entry, Item, Stamp, entry_bytes};
 use ncc_world::{ConnSeen, MemberSeen, Shown, Told, World};
 use std::alloc::{AllocError, Global};
 
@@ -85,21 +86,13 @@ fn only_text(rows: &Rows) -> Option<&Text>
     }
 }
 
-// One row in its shortest spelling. What a run tells has one; for another there is no memory.
-fn append_row(row: &Values, into: &mut Bytes) -> Result<(), AllocError>
-    ensures { OnOk result (into.new ≡ into.old ++ short (v.List row.now)) }
-{
-    if !values_fit(row) {
-        return Err(AllocError);
-    }
-    encode_values(row, into)
-}
-
+// Rows, each in its shortest spelling.
 fn append_row_list(rows: &[Values], into: &mut Bytes) -> Result<(), AllocError>
+    requires { All (λ row. IsTrue (fits (v.List row))) rows.now }
     ensures { OnOk result (into.new ≡ into.old ++ flat_map (λ row. short (v.List row)) rows.now) }
 {
     for row in rows {
-        append_row(row, into)?;
+        encode_values(row, into)?;
     }
     Ok(())
 }
@@ -107,11 +100,9 @@ fn append_row_list(rows: &[Values], into: &mut Bytes) -> Result<(), AllocError>
 // Rows in their shortest spelling, as a list of lists.
 #[tactic(auto, using(crate::proofs::Spelling::rows_short))]
 fn spell_rows(alloc: Global, rows: &Rows) -> Result<Bytes, AllocError>
+    requires { IsTrue (rows_keep rows.now) }
     ensures { IfOk result (λ b. b ≡ short (rows_value rows.now)) }
 {
-    if rows.len() > MAX_SIZE {
-        return Err(AllocError);
-    }
     let mut spelled = Bytes::new(alloc);
     encode_list_head(rows.len(), &mut spelled)?;
     append_row_list(rows.as_slice(), &mut spelled)?;
@@ -119,6 +110,7 @@ fn spell_rows(alloc: Global, rows: &Rows) -> Result<Bytes, AllocError>
 }
 
 fn append_rows_hex(rows: &Rows, into: &mut Bytes) -> Result<(), AllocError>
+    requires { IsTrue (rows_keep rows.now) }
     ensures { OnOk result (into.new ≡ into.old ++ rows_hex rows.now) }
 {
     let spelled = spell_rows(into.allocator(), rows)?;
@@ -128,6 +120,7 @@ fn append_rows_hex(rows: &Rows, into: &mut Bytes) -> Result<(), AllocError>
 
 // The rows of a statement: none, or one word, or their spelling.
 fn append_rows(rows: &Rows, into: &mut Bytes) -> Result<(), AllocError>
+    requires { IsTrue (rows_keep rows.now) }
     ensures { OnOk result (into.new ≡ into.old ++ rows_text rows.now) }
 {
     if rows.is_empty() {
@@ -160,6 +153,7 @@ fn fault_word(fault: RunFault) -> &'static str
 // What a fact says.
 #[tactic(auto, using(std::proofs::lemmas::List::append_assoc), unfolding(crate::specs::Report::fact_text))]
 fn append_text(fact: &Fact, into: &mut Bytes) -> Result<(), AllocError>
+    requires { IsTrue (rows_fit fact.now) }
     ensures { OnOk result (into.new ≡ into.old ++ fact_text fact.now) }
 {
     match fact {
@@ -190,6 +184,7 @@ fn append_text(fact: &Fact, into: &mut Bytes) -> Result<(), AllocError>
 // The line of a fact that was told.
 #[tactic(auto, using(std::proofs::lemmas::List::append_assoc), unfolding(crate::specs::Report::fact_line))]
 fn append_fact(told: &Told, into: &mut Bytes) -> Result<(), AllocError>
+    requires { IsTrue (rows_fit told.now.fact) }
     ensures { OnOk result (into.new ≡ into.old ++ fact_line told.now) }
 {
     append_counted(b"fact", told.line, into)?;
@@ -201,6 +196,7 @@ fn append_fact(told: &Told, into: &mut Bytes) -> Result<(), AllocError>
 
 // The lines of the facts that were told.
 fn append_told(told: &[Told], into: &mut Bytes) -> Result<(), AllocError>
+    requires { AllFit told.now }
     ensures { OnOk result (into.new ≡ into.old ++ flat_map fact_line told.now) }
 {
     for one in told {
@@ -376,13 +372,11 @@ fn put_words(steps: &Steps) -> Option<(&Text, &Text)>
     two_words(step.params.as_slice())
 }
 
-// An entry in its one spelling. What a history has has one; for another there is no memory.
+// An entry in its one spelling.
 fn append_spelled(entry: &Entry, into: &mut Bytes) -> Result<(), AllocError>
+    requires { IsTrue (entry_fits entry.now) }
     ensures { OnOk result (into.new ≡ into.old ++ (codes "tx " ++ hex (spelled entry.now))) }
 {
-    if !entry_fits(entry) {
-        return Err(AllocError);
-    }
     let mut bytes = Bytes::new(into.allocator());
     entry_bytes(entry, &mut bytes)?;
     into.extend(b"tx ")?;
@@ -392,6 +386,7 @@ fn append_spelled(entry: &Entry, into: &mut Bytes) -> Result<(), AllocError>
 // What an entry says.
 #[tactic(auto, using(std::proofs::lemmas::List::append_assoc), unfolding(crate::specs::Report::entry_text))]
 fn append_entry(entry: &Entry, into: &mut Bytes) -> Result<(), AllocError>
+    requires { IsTrue (entry_fits entry.now) }
     ensures { OnOk result (into.new ≡ into.old ++ entry_text entry.now) }
 {
     let Entry::Tx { steps, .. } = entry else {
@@ -421,6 +416,7 @@ fn append_valid(valid: bool, into: &mut Bytes) -> Result<(), AllocError>
 // The line of a place of the history.
 #[tactic(auto, using(std::proofs::lemmas::List::append_assoc), unfolding(crate::specs::Report::place_line))]
 fn append_place(place: u64, item: &Item, stamp: Stamp, into: &mut Bytes) -> Result<(), AllocError>
+    requires { IsTrue (entry_fits item.now.entry) }
     ensures { OnOk result (into.new ≡ into.old ++ place_line place item.now stamp) }
 {
     append_counted(b"place", place, into)?;
@@ -437,6 +433,7 @@ fn append_stamped(
     item: &Item,
     into: &mut Bytes,
 ) -> Result<(), AllocError>
+    requires { IsTrue (entry_fits item.now.entry) }
     ensures { (r : ListRun) (stamp : OneStamp) → Stands world.now r → stamp_of place (stamps r.history) ≡ Some stamp →
         OnOk result (into.new ≡ into.old ++ place_line place item.now stamp) }
 {
@@ -448,6 +445,7 @@ fn append_stamped(
 
 // The lines of the places of the history.
 fn append_places(world: &World, history: &[Item], into: &mut Bytes) -> Result<(), AllocError>
+    requires { AllAllowed history.now }
     ensures { (r : ListRun) → Stands world.now r → history.now ≡ r.history →
         OnOk result (into.new ≡ into.old ++ place_lines 1 history.now (stamps history.now)) }
 {

@@ -48,7 +48,8 @@ impl Log {
         ensures ok { OnOk result (self.new ≡ self.old ++ item ∷ []) }
         ensures err { OnErr result (self.new ≡ self.old) }
     {
-        self.items.push(item)
+        self.items.push(item)?;
+        Ok(())
     }
 
     /// How many there are.

@@ -1,8 +1,9 @@
 //! The bytes of the clients that `put` and `get` stand for.
 
-ghost use Rattle.std.specs.Prelude.{◌≡◌, ◌++◌, ◌≤◌, map, true, length, IfOk, OnOk, IsTrue};
+ghost use Rattle.std.specs.Prelude.{◌≡◌, ◌++◌, ◌≤◌, [], map, true, length, IfOk, OnOk, IsTrue};
 ghost use Rattle.ncc_pack.specs.declared.value.Value.TheVariants as v;
 ghost use Rattle.ncc_bolt.specs.Writing.{fits_request};
+ghost use Rattle.ncc_bolt.specs.declared.message.Request.TheVariants as r;
 ghost use Rattle.ncc_bookmark.specs.Spelling.{text_of};
 ghost use Rattle.ncc_world.specs.Events.{AreFew, is_word};
 ghost use Rattle.ncc_world.specs.Requests.{bookmarks_at, client_bytes, get_request, pull, put_request, sent, text_at};
@@ -28,10 +29,20 @@ fn send(alloc: Global, request: &Request, into: &mut Bytes) -> Result<(), Memory
     chunk(message.as_slice(), into)
 }
 
+// HELLO that says nothing more.
+fn hello(alloc: Global) -> Request
+    ensures made { result ≡ r.Hello [] }
+    ensures fits { IsTrue (fits_request result) }
+{
+    Request::Hello {
+        extra: Sequence::new(alloc),
+    }
+}
+
 // PULL of all rows.
 fn pull(alloc: Global) -> Result<Request, Memory>
-    ensures made { IfOk result (λ r. r ≡ pull) }
-    ensures fits { IfOk result (λ r. IsTrue (fits_request r)) }
+    ensures made { IfOk result (λ q. q ≡ pull) }
+    ensures fits { IfOk result (λ q. IsTrue (fits_request q)) }
 {
     let mut extra = Sequence::new(alloc);
     extra.push((Text::from_str(alloc, "n")?, Value::Int(-1)))?;
@@ -44,10 +55,7 @@ pub(crate) fn client_bytes(alloc: Global, request: &Request) -> Result<Bytes, Me
     ensures bytes { IfOk result (λ b. b ≡ client_bytes request.now) }
 {
     let mut bytes = Bytes::from_slice(alloc, &SHAKE)?;
-    let hello = Request::Hello {
-        extra: Sequence::new(alloc),
-    };
-    send(alloc, &hello, &mut bytes)?;
+    send(alloc, &hello(alloc), &mut bytes)?;
     send(alloc, request, &mut bytes)?;
     send(alloc, &pull(alloc)?, &mut bytes)?;
     send(alloc, &Request::Goodbye, &mut bytes)?;
@@ -91,8 +99,8 @@ pub(crate) fn put_request(
 ) -> Result<Request, Memory>
     requires words { (is_word key.now ≡ true) × (is_word value.now ≡ true) }
     requires few { AreFew bookmarks.now }
-    ensures made { IfOk result (λ r. r ≡ put_request key.now value.now bookmarks.now) }
-    ensures fits { IfOk result (λ r. IsTrue (fits_request r)) }
+    ensures made { IfOk result (λ q. q ≡ put_request key.now value.now bookmarks.now) }
+    ensures fits { IfOk result (λ q. IsTrue (fits_request q)) }
 {
     let mut params = Sequence::new(alloc);
     params.push(text_at(alloc, "k", key)?)?;
@@ -112,8 +120,8 @@ pub(crate) fn get_request(
 ) -> Result<Request, Memory>
     requires word { is_word key.now ≡ true }
     requires few { AreFew bookmarks.now }
-    ensures made { IfOk result (λ r. r ≡ get_request key.now bookmarks.now) }
-    ensures fits { IfOk result (λ r. IsTrue (fits_request r)) }
+    ensures made { IfOk result (λ q. q ≡ get_request key.now bookmarks.now) }
+    ensures fits { IfOk result (λ q. IsTrue (fits_request q)) }
 {
     let mut params = Sequence::new(alloc);
     params.push(text_at(alloc, "k", key)?)?;

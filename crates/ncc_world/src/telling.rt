@@ -48,7 +48,8 @@ impl Telling {
         ensures ok { OnOk result (self.new ≡ self.old ++ told ∷ []) }
         ensures err { OnErr result (self.new ≡ self.old) }
     {
-        self.facts.push(told)
+        self.facts.push(told)?;
+        Ok(())
     }
 
     /// All of them.

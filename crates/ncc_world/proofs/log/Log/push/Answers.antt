@@ -1,2 +1,5 @@
 use Rattle.std.proofs.lemmas.List.Elements.{All-push}
 use Rattle.ncc_world.proofs.log.Log.push.Goals as goal
+
+pub invariant_of-self-2 : goal.invariant_of-self-2
+invariant_of-self-2 c = rw c.in_ok-push.ensures.ok (All-push _ _ _ c.self.invariant c.requires.allowed)
