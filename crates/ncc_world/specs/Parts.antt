@@ -1,15 +1,23 @@
 -- What the parts of a world do. No public clause speaks of it.
 use Rattle.std.specs.Prelude.{◌≡◌, ℕ, ◌+◌, ◌<◌, Bool, true, false, if◌then◌else◌, ◌||◌, min, nat_lt, List, [], ◌∷◌, ◌++◌, length}
-use Rattle.std.specs.Prelude.{Option, Some, None, slice_get, slice_set, IsTrue}
+use Rattle.std.specs.Prelude.{Option, Some, None, Result, slice_get, slice_set, IsTrue, IfOk}
 use Rattle.ncc_wait.specs.declared.outcomes.Outcome.{Outcome}
 use Rattle.ncc_wait.specs.declared.parked.Parked.{Parked}
 use Rattle.ncc_wait.specs.Room.{put, without}
+use Rattle.ncc_store.specs.declared.call.Call.{Call}
+use Rattle.ncc_store.specs.declared.fault.RunError.{RunError}
+use Rattle.ncc_store.specs.declared.ran.Ran.{Ran}
+use Rattle.ncc_store.specs.Answers.{Gives}
+use Rattle.ncc_store.specs.Delta.{IsOver, applied}
+use Rattle.ncc_store.specs.Exec.{exec}
+use Rattle.ncc_store.specs.Graph.{Graph}
 use Rattle.ncc_tx.specs.declared.entry.Entry.{Entry}
+use Rattle.ncc_tx.specs.declared.entry.Item.{Item}
 use Rattle.ncc_session.specs.declared.ask.Fact.{Fact}
-use Rattle.ncc_session.specs.Question.{Question}
+use Rattle.ncc_session.specs.Question.{Question, Row}
 use Rattle.ncc_session.specs.Talk.{Talk, asked, fits_at}
 use Rattle.ncc_clients.specs.Members.{Proposed, elsewhere, full, placed}
-use Rattle.ncc_clients.specs.Run.{Run, Client, Placing, Reply, waits, tells, proposes, with_bytes, with_fact, with_placing, deadline_of, question_of}
+use Rattle.ncc_clients.specs.Run.{Run, Client, Placing, Reply, waits, tells, proposes, with_bytes, with_fact, with_placing, deadline_of, question_of, last_rows}
 use Rattle.ncc_clients.specs.Four.{Begins}
 use Rattle.ncc_clients.specs.Turn.{Turn, AtRest, Does, IsEntryOf, acts}
 use Rattle.ncc_world.specs.declared.setup.Setup.{Setup}
@@ -26,6 +34,7 @@ use Rattle.ncc_world.specs.declared.answer.Reply as declared
 use Rattle.ncc_world.specs.declared.answer.Reply.TheVariants as answer
 use Rattle.ncc_world.specs.declared.running.Running.{Running}
 use Rattle.ncc_world.specs.Setting.{Lists, cluster_of}
+use Rattle.ncc_world.specs.Earlier.{LeftBy, LeftFor}
 use Rattle.ncc_world.specs.Happening.{ListRun}
 use Rattle.ncc_world.specs.World.{KeptMembers, KeptClients, KeptRun, AreMembers, AreServed, RunsAs, placing_of}
 
@@ -36,7 +45,13 @@ abbrev pub clients_in : Clients → KeptClients
 clients_in k = record { table = k.table.items; seen = k.seen; rooms = k.rooms.items }
 
 abbrev pub run_in : Running → KeptRun
-run_in w = record { now = w.clock; members = members_in w.members; clients = clients_in w.clients; told = w.told }
+run_in w = record {
+  now = w.clock;
+  members = members_in w.members;
+  clients = clients_in w.clients;
+  told = w.told;
+  earlier = w.earlier.items;
+}
 
 -- it stands for some run
 pub record HasRun (s : Setup) (w : Running) : Type 0 where
@@ -108,8 +123,29 @@ placed_at p = record { place = p.place; term = p.term }
 
 abbrev pub reply_in : declared.Reply → Reply
 reply_in answer.Waits = waits
-reply_in (answer.Tells fact) = tells fact
+reply_in (answer.Tells fact earlier) = tells fact
 reply_in answer.Proposes = proposes
+
+-- what is kept behind an answer to a question, and where nothing is
+abbrev pub LeftIn : List Item → Question → declared.Reply → Type 0
+LeftIn list question (answer.Tells fact earlier) = LeftBy list question fact earlier
+LeftIn list question _ = Unit {0}
+
+abbrev pub KeepsNothing : declared.Reply → Type 0
+KeepsNothing (answer.Tells fact earlier) = earlier ≡ None
+KeepsNothing _ = Unit {0}
+
+-- behind an answer to a connection
+abbrev pub LeftAt : Setup → ListRun → Client → declared.Reply → Type 0
+LeftAt s r c (answer.Tells fact earlier) = LeftFor s r c fact earlier
+LeftAt s r c _ = Unit {0}
+
+-- Steps were run, or the last of them behind what the others left: the rows of the last, what all left, and the first fault are those of
+-- all the calls.
+abbrev pub RunsToLast : Graph → List Call → Result Ran RunError → Type 0
+RunsToLast g calls result =
+    (front : List (List Row)) × Gives (λ r. record { rows = front ++ r.rows; graph = applied r.delta g }) result (exec g calls)
+    × IfOk result (λ r. last_rows (front ++ r.rows) ≡ last_rows r.rows) × IfOk result (λ r. IsOver g r.delta)
 
 -- what a question is answered by, of the connection
 pub record IsAskedOf (s : Setup) (now : ℕ) (member deadline : ℕ) (placing : Option Place) (r : ListRun) (c : Client) : Type 0 where
@@ -126,6 +162,7 @@ pub record Offered (s : Setup) (r : ListRun) (c : Client) (p : Proposal) (old ne
   pub clock : new.clock ≡ old.clock
   pub clients : new.clients ≡ old.clients
   pub told : new.told ≡ old.told
+  pub earlier : new.earlier ≡ old.earlier
   pub grows : Begins old.members.items new.members.items
 
 -- it stands for a run that this reply makes

@@ -18,11 +18,13 @@ use Rattle.ncc_world.specs.declared.error.WorldError.{WorldError}
 use Rattle.ncc_world.specs.declared.error.WorldError.TheVariants.{Memory, Limit}
 use Rattle.ncc_world.specs.declared.seen.MemberSeen.{MemberSeen}
 use Rattle.ncc_world.specs.declared.seen.ConnSeen.{ConnSeen}
+use Rattle.ncc_world.specs.declared.earlier.Earlier.{Earlier}
 use Rattle.ncc_world.specs.declared.served.Place.{Place}
 use Rattle.ncc_world.specs.declared.served.Served.{Served}
 use Rattle.ncc_world.specs.Setting.{Lists, cluster_of, list_at}
 use Rattle.ncc_world.specs.Happening.{ListRun}
 use Rattle.ncc_world.specs.Showing.{members_from, conn_seen}
+use Rattle.ncc_world.specs.Earlier.{AllRemember}
 
 -- it goes on; or a limit was passed, or memory was wanting, and it answers so from then on
 pub data Standing : Type 0 where
@@ -149,6 +151,8 @@ pub record KeptRun : Type 0 where
   pub members : KeptMembers
   pub clients : KeptClients
   pub told : List Told
+  -- what is kept of the transaction that is open at each connection
+  pub earlier : List (Option Earlier)
 
 pub record RunsAs (s : Setup) (k : KeptRun) (r : ListRun) : Type 0 where
   pub now : k.now ≡ r.now
@@ -156,6 +160,7 @@ pub record RunsAs (s : Setup) (k : KeptRun) (r : ListRun) : Type 0 where
   pub members : AreMembers s k.members r.members
   pub clients : AreServed s (length r.members) k.clients r.clients
   pub told : k.told ≡ r.told
+  pub earlier : AllRemember s k.earlier r
 
 pub record Kept : Type 0 where
   pub setup : Setup
