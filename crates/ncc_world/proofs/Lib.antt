@@ -24,3 +24,5 @@ pub mod Happened
 pub mod Fresh
 pub mod Sending
 pub mod Spelling
+pub mod Remembering
+pub mod Rerunning
