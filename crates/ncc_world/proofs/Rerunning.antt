@@ -30,16 +30,17 @@ use Rattle.ncc_world.specs.Parts.{KeepsNothing, LeftIn, RunsToLast}
 
 -- ---- the last rows
 
-get_behind : (xs ys : List (List Row)) (y : List Row) → slice_get (xs ++ (ys ++ (y ∷ []))) (length xs + length ys) ≡ Some y
-get_behind [] [] y = refl
-get_behind [] (z ∷ ys) y = get_behind [] ys y
-get_behind (x ∷ xs) ys y = get_behind xs ys y
+get_last : (xs : List (List Row)) (y : List Row) → slice_get (xs ++ (y ∷ [])) (length xs) ≡ Some y
+get_last [] y = refl
+get_last (x ∷ xs) y = get_last xs y
 
 last_behind : (front : List (List Row)) (rows : List (List Row)) → length rows ≡ 1 → last_rows (front ++ rows) ≡ last_rows rows
 last_behind front [] one = absurd (omega (arith, one))
 last_behind front (y ∷ []) one =
-    let n : length (front ++ (y ∷ [])) - 1 ≡ length front + 0 = omega (arith, length-append front (y ∷ [])) in
-    rw (ap (λ k. slice_get (front ++ (y ∷ [])) k) n ∙ get_behind front [] y, last_rows) refl
+    let n : length (front ++ (y ∷ [])) - 1 ≡ length front = omega (arith, length-append front (y ∷ [])) in
+    let last : slice_get (front ++ (y ∷ [])) (length (front ++ (y ∷ [])) - 1) ≡ Some y =
+    ap (λ k. slice_get (front ++ (y ∷ [])) k) n ∙ get_last front y in
+    rw (last, last_rows) refl
 last_behind front (y ∷ z ∷ rows) one = absurd (omega (arith, one))
 
 -- ---- the last step alone
