@@ -100,7 +100,7 @@ asked_open v false q w e = ap (λ (x : Bool). cond x None (asked v.conn)) (sym w
 pub may_propose : (s : Setup) (r : ListRun) (v : Served) (seen : ConnSeen) (c : Client) (entry : Entry) → IsClient s v seen c
     → question_of (cluster_of s) c ≡ Some (leave_of entry) → reply (cluster_of s) r c ≡ proposes → IsTrue (entry_allowed entry)
 may_propose s r v seen c entry k e h =
-    let open : asked v.conn ≡ Some (leave_of entry) = asked_open v v.closed (leave_of entry) refl (asked_is s v seen c k.kept ∙ e) in
+    let live : asked v.conn ≡ Some (leave_of entry) = asked_open v v.closed (leave_of entry) refl (asked_is s v seen c k.kept ∙ e) in
     may_stand s r c entry
-    (may_ask v.conn (leave_of entry) open (config_of (cluster_of s) c.number) c.bytes c.facts seen.out k.kept.talk)
+    (may_ask v.conn (leave_of entry) live (config_of (cluster_of s) c.number) c.bytes c.facts seen.out k.kept.talk)
     (reply_some s r c (leave_of entry) e ∙ h)
