@@ -78,12 +78,7 @@ impl Shelf {
 
     /// Goes on from what earlier steps would change, which is moved: it runs these steps over the store that the items leave and those
     /// changes, and changes nothing. The rows are those of these steps alone, and the delta is that of all.
-    pub fn run_on(
-        &self,
-        alloc: Global,
-        earlier: Delta,
-        steps: &Steps,
-    ) -> Result<Ran, RunError>
+    pub fn run_on(&self, alloc: Global, earlier: Delta, steps: &Steps) -> Result<Ran, RunError>
         requires over { (h : List Item) × Stands self.now h × IsOver (state h) earlier }
         // The rows and the store after the last step, or the first fault, are those of the calls over the store that the earlier delta
         // leaves.

@@ -44,14 +44,14 @@ turn_of t facts a = record { answered = a.answered; split = a.split; counted = a
 
 -- a question of steps follows an open transaction: its steps, and one more
 record Steps (held : Option Held) (calls : List Call) : Type 0 where
-  open : Held
-  held_is : held ≡ Some open
+  tx : Held
+  tx_is : held ≡ Some tx
   last : Call
-  calls_are : calls ≡ open.calls ++ last ∷ []
+  calls_are : calls ≡ tx.calls ++ last ∷ []
 
 steps_by : (held : Option Held) (calls : List Call) → Follows held (run calls) → Steps held calls
 steps_by None calls f = absurd f
-steps_by (Some h) calls f = record { open = h; held_is = refl; last = f.0; calls_are = f.1 }
+steps_by (Some h) calls f = record { tx = h; tx_is = refl; last = f.0; calls_are = f.1 }
 
 steps_of : (s : Setup) (c : Client) (calls : List Call) (k : InTurn (talk_of (cluster_of s) c) c.facts)
     → asked_at (talk_of (cluster_of s) c).core ≡ Some (run calls) → Steps (open_behind None k.answered c.facts) calls
@@ -77,12 +77,12 @@ from_kept s list c None calls k asks = tt
 from_kept s list c (Some e) calls k asks =
     let steps = steps_of s c calls k.in_turn asks in
     let open_ : IsOfOpen list (open_behind None k.in_turn.answered c.facts) e = k.kept in
-    let same : open_.open.calls ≡ steps.open.calls = same_open open_.open steps.open (sym open_.held_is ∙ steps.held_is) in
+    let same : open_.tx.calls ≡ steps.tx.calls = same_open open_.tx steps.tx (sym open_.tx_is ∙ steps.tx_is) in
     record {
-      before = open_.open.calls;
+      before = open_.tx.calls;
       last = steps.last;
       calls_are = steps.calls_are ∙ ap (λ (cs : List Call). cs ++ steps.last ∷ []) (sym same);
-      left = λ here. subst (λ (l : List Item). Left (state l) open_.open.calls e.delta) (all_of list e.at here) open_.left;
+      left = λ here. subst (λ (l : List Item). Left (state l) open_.tx.calls e.delta) (all_of list e.at here) open_.left;
     }
 
 -- ---- one connection
@@ -157,11 +157,11 @@ told_remembers s list now c q fact o taken asks fit k left = record { in_turn = 
   kept (Some e) l =
       let steps = steps_of s c l.calls k (asks ∙ ap (λ (x : Question). Some x) l.asks) in
       record {
-        open = record { calls = l.calls; told = steps.open.told ++ l.rows ∷ [] };
-        held_is =
+        tx = record { calls = l.calls; told = steps.tx.told ++ l.rows ∷ [] };
+        tx_is =
             ap (λ (x : Question). open_behind None (k.answered ++ (x ∷ [])) (c.facts ++ (fact ∷ []))) l.asks
             ∙ ap (λ (x : Fact). open_behind None (k.answered ++ (run l.calls ∷ [])) (c.facts ++ (x ∷ []))) l.told
-            ∙ told_open k.answered c.facts l.calls e.at l.rows steps.open k.counted steps.held_is;
+            ∙ told_open k.answered c.facts l.calls e.at l.rows steps.tx k.counted steps.tx_is;
         within = omega (arith, l.here);
         left = subst (λ (x : List Item). Left (state x) l.calls e.delta) (sym (all_of list e.at l.here)) l.left;
       }
@@ -172,10 +172,10 @@ grown_kept old new held None b k = tt
 grown_kept old new held (Some e) b k =
     let same : take e.at old ≡ take e.at new = sym (take-append-le e.at old b.0 k.within) ∙ ap (take e.at) b.1 in
     record {
-      open = k.open;
-      held_is = k.held_is;
+      tx = k.tx;
+      tx_is = k.tx_is;
       within = omega (arith, k.within, begins_length old new b);
-      left = subst (λ (l : List Item). Left (state l) k.open.calls e.delta) same k.left;
+      left = subst (λ (l : List Item). Left (state l) k.tx.calls e.delta) same k.left;
     }
 
 grown_remembers : (s : Setup) (old new : List Item) (c : Client) (o : Option Earlier) → Begins old new → Remembers s old c o

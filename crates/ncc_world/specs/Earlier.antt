@@ -39,10 +39,10 @@ pub record InTurn (t : Standing) (facts : List Fact) : Type 0 where
 
 -- It is what the steps of the open transaction left, over the store at a place that the member has applied.
 pub record IsOfOpen (list : List Item) (held : Option Held) (e : Earlier) : Type 0 where
-  pub open : Held
-  pub held_is : held ≡ Some open
+  pub tx : Held
+  pub tx_is : held ≡ Some tx
   pub within : e.at ≤ length list
-  pub left : Left (state (take e.at list)) open.calls e.delta
+  pub left : Left (state (take e.at list)) tx.calls e.delta
 
 abbrev pub IsKeptOf : List Item → Option Held → Option Earlier → Type 0
 IsKeptOf list held None = Unit {0}

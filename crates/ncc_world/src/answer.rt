@@ -91,12 +91,7 @@ fn last_alone(alloc: Global, steps: &[Step]) -> Result<Steps, Memory>
 }
 
 // Runs the last step behind what those before it left.
-fn run_last(
-    alloc: Global,
-    shelf: &Shelf,
-    earlier: &Delta,
-    steps: &Steps,
-) -> Result<Ran, RunError>
+fn run_last(alloc: Global, shelf: &Shelf, earlier: &Delta, steps: &Steps) -> Result<Ran, RunError>
     requires left { (h : List Items) × ShelfStands shelf.now h × (before : List Calls) × (call : Calls)
         × (map call_of steps.now ≡ before ++ call ∷ []) × Left (state h) before earlier.now }
     ensures ran { (h : List Items) → ShelfStands shelf.now h → RunsToLast (state h) (map call_of steps.now) result }
