@@ -1,11 +1,10 @@
 //! The bytes of the clients that `put` and `get` stand for.
 
-ghost use Rattle.std.specs.Prelude.{◌≡◌, ◌++◌, ◌≤◌, [], map, true, length, IfOk, OnOk, IsTrue};
+ghost use Rattle.std.specs.Prelude.{◌≡◌, ◌++◌, [], map, IfOk, OnOk, IsTrue};
 ghost use Rattle.ncc_pack.specs.declared.value.Value.TheVariants as v;
 ghost use Rattle.ncc_bolt.specs.Writing.{fits_request};
-ghost use Rattle.ncc_bolt.specs.declared.message.Request.TheVariants as r;
+ghost use Rattle.ncc_bolt.specs.declared.message.Request.TheVariants as request;
 ghost use Rattle.ncc_bookmark.specs.Spelling.{text_of};
-ghost use Rattle.ncc_world.specs.Events.{AreFew, is_word};
 ghost use Rattle.ncc_world.specs.Requests.{bookmarks_at, client_bytes, get_request, pull, put_request, sent, text_at};
 
 use crate::event::Bookmarks;
@@ -31,7 +30,7 @@ fn send(alloc: Global, request: &Request, into: &mut Bytes) -> Result<(), Memory
 
 // HELLO that says nothing more.
 fn hello(alloc: Global) -> Request
-    ensures made { result ≡ r.Hello [] }
+    ensures made { result ≡ request.Hello [] }
     ensures fits { IsTrue (fits_request result) }
 {
     Request::Hello {
@@ -41,8 +40,8 @@ fn hello(alloc: Global) -> Request
 
 // PULL of all rows.
 fn pull(alloc: Global) -> Result<Request, Memory>
-    ensures made { IfOk result (λ q. q ≡ pull) }
-    ensures fits { IfOk result (λ q. IsTrue (fits_request q)) }
+    ensures made { IfOk result (λ r. r ≡ pull) }
+    ensures fits { IfOk result (λ r. IsTrue (fits_request r)) }
 {
     let mut extra = Sequence::new(alloc);
     extra.push((Text::from_str(alloc, "n")?, Value::Int(-1)))?;
@@ -52,7 +51,7 @@ fn pull(alloc: Global) -> Result<Request, Memory>
 /// All that a client sends for one statement: the handshake, HELLO, the statement, PULL of all rows, and GOODBYE.
 pub(crate) fn client_bytes(alloc: Global, request: &Request) -> Result<Bytes, Memory>
     requires fits { IsTrue (fits_request request.now) }
-    ensures bytes { IfOk result (λ b. b ≡ client_bytes request.now) }
+    ensures { IfOk result (λ b. b ≡ client_bytes request.now) }
 {
     let mut bytes = Bytes::from_slice(alloc, &SHAKE)?;
     send(alloc, &hello(alloc), &mut bytes)?;
@@ -97,10 +96,7 @@ pub(crate) fn put_request(
     value: &Text,
     bookmarks: &Bookmarks,
 ) -> Result<Request, Memory>
-    requires words { (is_word key.now ≡ true) × (is_word value.now ≡ true) }
-    requires few { AreFew bookmarks.now }
-    ensures made { IfOk result (λ q. q ≡ put_request key.now value.now bookmarks.now) }
-    ensures fits { IfOk result (λ q. IsTrue (fits_request q)) }
+    ensures { IfOk result (λ r. r ≡ put_request key.now value.now bookmarks.now) }
 {
     let mut params = Sequence::new(alloc);
     params.push(text_at(alloc, "k", key)?)?;
@@ -118,10 +114,7 @@ pub(crate) fn get_request(
     key: &Text,
     bookmarks: &Bookmarks,
 ) -> Result<Request, Memory>
-    requires word { is_word key.now ≡ true }
-    requires few { AreFew bookmarks.now }
-    ensures made { IfOk result (λ q. q ≡ get_request key.now bookmarks.now) }
-    ensures fits { IfOk result (λ q. IsTrue (fits_request q)) }
+    ensures { IfOk result (λ r. r ≡ get_request key.now bookmarks.now) }
 {
     let mut params = Sequence::new(alloc);
     params.push(text_at(alloc, "k", key)?)?;

@@ -1,9 +1,17 @@
-use Rattle.std.proofs.Common.{◌++◌, ◌+◌, ap, arith, sym, ◌∙◌}
+use Rattle.std.proofs.Common.{◌++◌, ◌+◌, ap, arith, sym, ◌∙◌, subst, IsTrue}
 use Rattle.ncc_apply.specs.View.{stamp_of}
+use Rattle.ncc_tx.specs.Items.{entry_allowed}
 use Rattle.ncc_tx.specs.State.{stamps}
+use Rattle.ncc_tx.specs.declared.entry.Item.{Item}
 use Rattle.ncc_replay.specs.Report.{place_lines}
-use Rattle.ncc_replay.proofs.Spelling.{none_are_left, place_written, stamp_at_place}
+use Rattle.ncc_replay.proofs.Spelling.{allowed_fits, none_are_left, place_written, stamp_at_place}
 use Rattle.ncc_replay.proofs.report.append_places.Goals as goal
+
+pub append_stamped-requires : goal.append_stamped-requires
+append_stamped-requires c =
+    let item : Item = c.index-history-index.result in
+    allowed_fits item.entry (subst (λ (x : Item). IsTrue (entry_allowed x.entry)) (sym c.index-history-index.is)
+    (c.requires c.loop-index.index item c.loop-index-test.true))
 
 pub loop-index-preserved : goal.loop-index-preserved
 loop-index-preserved c = λ r st e.

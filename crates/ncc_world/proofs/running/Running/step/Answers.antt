@@ -1,14 +1,17 @@
-use Rattle.std.proofs.Common.{◌≡◌, ◌∙◌, ◌-◌, ◌<◌, ap, sym, subst, arith, refl, None, List, ℕ, length}
+use Rattle.std.proofs.Common.{◌≡◌, ◌∙◌, ◌-◌, ◌<◌, ap, sym, subst, arith, refl, None, List, ℕ, length, IsTrue}
 use Rattle.std.proofs.lemmas.Result.{on_ok_weaker}
+use Rattle.ncc_bolt.specs.Writing.{fits_request}
 use Rattle.ncc_bolt.specs.declared.message.Request.{Request}
 use Rattle.ncc_world.specs.declared.event.Event.{Event}
 use Rattle.ncc_world.specs.declared.error.WorldError.TheVariants.{NoConn, NoMember}
+use Rattle.ncc_world.specs.Events.{MayHappen}
 use Rattle.ncc_world.specs.Happening.{own, asks, feeds, refusal, is_open_made, is_member}
 use Rattle.ncc_world.specs.World.{RunsAs}
 use Rattle.ncc_world.specs.Parts.{run_in}
 use Rattle.ncc_world.proofs.Turning.{counted}
 use Rattle.ncc_world.proofs.Opened.{made_within, allowed_by}
 use Rattle.ncc_world.proofs.Owning.{own_time, own_put, own_get, own_apply, own_open, own_bytes, own_close}
+use Rattle.ncc_world.proofs.Sending.{put_fits, get_fits}
 use Rattle.ncc_world.proofs.running.Running.step.Goals as goal
 
 pub feed-requires-clause-there : goal.feed-requires-clause-there
@@ -26,6 +29,18 @@ close-requires-clause-there c =
     let made = allowed_by (is_open_made r c.in-Close.conn) NoConn
     (ap (refusal r) (sym c.in-Close.is) ∙ c.requires.taken r c.requires.live.runs_as) in
     omega (arith, made_within r c.in-Close.conn made, n.table)
+
+pub ask-requires-clause-fits : goal.ask-requires-clause-fits
+ask-requires-clause-fits c =
+    let may = subst (λ (e : Event). MayHappen c.args.setup.now.cluster e) c.in-Put.is c.requires.may_happen in
+    subst (λ (q : Request). IsTrue (fits_request q)) (sym c.in_ok-request-in-Put.ensures)
+    (put_fits c.in-Put.key c.in-Put.value c.in-Put.bookmarks may.0 may.1 may.3)
+
+pub ask-requires-in-Get-clause-fits : goal.ask-requires-in-Get-clause-fits
+ask-requires-in-Get-clause-fits c =
+    let may = subst (λ (e : Event). MayHappen c.args.setup.now.cluster e) c.in-Get.is c.requires.may_happen in
+    subst (λ (q : Request). IsTrue (fits_request q)) (sym c.in_ok-request-in-Get.ensures)
+    (get_fits c.in-Get.key c.in-Get.bookmarks may.0 may.2)
 
 pub returns-in-Time : goal.returns-in-Time
 returns-in-Time c = record {

@@ -1,10 +1,12 @@
 use Rattle.std.proofs.Common.{◌≡◌, ◌<◌, ◌≤◌, ◌+◌, ◌∙◌, ap, sym, length, arith, refl, get_or, List, ◌∷◌, [], ◌++◌, Some, None, map}
-use Rattle.std.proofs.Common.{subst}
+use Rattle.std.proofs.Common.{subst, IsTrue}
 use Rattle.std.specs.Prelude.{slice_set}
 use Rattle.std.proofs.lemmas.Result.{on_ok_weaker}
 use Rattle.ncc_session.specs.declared.ask.Fact.{Fact}
+use Rattle.ncc_session.specs.Talk.{asked}
 use Rattle.ncc_clients.specs.declared.told.Told.{Told}
 use Rattle.ncc_clients.specs.Run.{with_fact}
+use Rattle.ncc_world.specs.Spellable.{rows_fit}
 use Rattle.ncc_world.specs.World.{AreServed}
 use Rattle.ncc_world.specs.Parts.{run_in, clients_in}
 use Rattle.ncc_world.proofs.Keeping.{get_there}
@@ -21,7 +23,9 @@ shown-requires c =
 pub push-requires : goal.push-requires
 push-requires c =
     let v = get_there c.args.self.now.clients.table.items c.args.index c.requires.there in
-    record { fits = told_rows _ c.args.fact (c.requires.fits v.0 v.1) }
+    record {
+      fits = subst (λ (x : Fact). IsTrue (rows_fit x)) (sym c.in_ok-copy.ensures.equal) (told_rows (asked v.0.conn) c.args.fact (c.requires.fits v.0 v.1));
+    }
 
 pub returns : goal.returns
 returns c = record {
