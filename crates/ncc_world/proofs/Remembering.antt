@@ -1,6 +1,7 @@
 -- What is kept of the steps of an open transaction, as connections and members change.
 use Rattle.std.proofs.Common.{◌≡◌, ◌≢◌, ◌⊎◌, inl, inr, ℕ, ◌+◌, ◌-◌, ◌<◌, ◌≤◌, Bool, true, false, List, [], ◌∷◌, ◌++◌, length, take, Option, Some, None, Ok, map}
-use Rattle.std.proofs.Common.{refl, ap, sym, ◌∙◌, subst, arith, IsTrue, length-append}
+use Rattle.std.proofs.Common.{refl, ap, sym, ◌∙◌, subst, arith, IsTrue, length-append, cond}
+use Rattle.std.proofs.lemmas.Bool.{false≢true}
 use Rattle.std.specs.Prelude.{slice_get, slice_set}
 use Rattle.std.proofs.Math.Seq.{take-length}
 use Rattle.std.proofs.lemmas.List.{take-append-le}
@@ -13,20 +14,24 @@ use Rattle.ncc_session.specs.declared.ask.Fact.TheVariants.{Rows}
 use Rattle.ncc_session.specs.Asking.{waiting, WentOn}
 use Rattle.ncc_session.specs.Question.{Question, Row, run, fits, questions_of}
 use Rattle.ncc_session.specs.Session.{Standing, asked_at, session}
+use Rattle.ncc_session.specs.Talk.{asked, fits_at}
 use Rattle.ncc_session.specs.Transactions.{Held, after, Follows, AreTransactions}
 use Rattle.ncc_clients.specs.Four.{Begins}
 use Rattle.ncc_clients.specs.Members.{config_of}
 use Rattle.ncc_clients.specs.Run.{Client, talk_of, with_bytes, with_fact, with_placing, opened, told_to, moved, accepted}
 use Rattle.ncc_clients.proofs.Asked.{Asks, holds, holds_push, follows, open_run, asks_fresh, asks_still, asks_bytes, asks_fact}
 use Rattle.ncc_clients.proofs.Known.{StandsStill}
-use Rattle.ncc_clients.proofs.Lists.{get_push, get_set, get_within, set_length}
+use Rattle.ncc_clients.proofs.Lists.{get_push, get_set, get_there, get_within, set_length}
 use Rattle.ncc_clients.proofs.Sessions.{known}
 use Rattle.ncc_world.specs.declared.setup.Setup.{Setup}
 use Rattle.ncc_world.specs.declared.earlier.Earlier.{Earlier}
+use Rattle.ncc_world.specs.declared.seen.ConnSeen.{ConnSeen}
+use Rattle.ncc_world.specs.declared.served.Served.{Served}
 use Rattle.ncc_world.specs.Setting.{Lists, cluster_of, list_at}
 use Rattle.ncc_world.specs.Happening.{ListRun, start_of}
 use Rattle.ncc_world.specs.Earlier.{Left, open_behind, InTurn, IsOfOpen, IsKeptOf, Remembers, AllRemember}
-use Rattle.ncc_world.specs.Earlier.{IsOfAllButLast, IsFrom, IsRan, LeftBy}
+use Rattle.ncc_world.specs.Earlier.{IsOfAllButLast, IsFrom, IsRan, LeftBy, LeftFor}
+use Rattle.ncc_world.specs.World.{IsClient}
 use Rattle.ncc_world.proofs.Begun.{begins_length}
 
 -- ---- the transaction that is open
@@ -268,3 +273,28 @@ pub all_accepted : (s : Setup) (es : List (Option Earlier)) (r : ListRun) (i : �
 all_accepted s es r i c place term members k there h =
     one_changes s es (moved (cluster_of s) r members) i c (with_placing r.now c place term) (all_grown s es r members k h) there
     (λ o. placed_remembers s (list_at members c.member) r.now place term c o)
+
+-- one connection is told a fact that answers its question
+pub all_told : (s : Setup) (es : List (Option Earlier)) (line : ℕ) (r : ListRun) (i : ℕ) (c : Client) (v : Served) (seen : ConnSeen)
+    (fact : Fact) (o : Option Earlier) → AllRemember s es r → i < length es → slice_get r.clients i ≡ Some c → IsClient s v seen c
+    → IsTrue (fits_at (asked v.conn) fact) → LeftFor s r c fact o → AllRemember s (slice_set es i o) (told_to line r i c fact)
+all_told s es line r i c v seen fact o k within there is fit left =
+    one_told s es line r i c fact o k there (go (asked_at (talk_of (cluster_of s) c).core) refl) where
+      old : (e : Option Earlier) × (slice_get es i ≡ Some e)
+      old = get_there es i within
+
+      was : Remembers s (list_at r.members c.member) c old.0
+      was = k.each i c old.0 there old.1
+
+      -- the connection has the question of its session
+      asks : asked v.conn ≡ asked_at (talk_of (cluster_of s) c).core
+      asks = ap (λ (b : Bool). cond b None (asked_at v.conn.place)) is.kept.talk.fine
+          ∙ ap asked_at (sym (ap (λ (x : Standing). x.core) is.kept.talk.went))
+
+      go : (q : Option Question) → asked_at (talk_of (cluster_of s) c).core ≡ q → Remembers s (list_at r.members c.member) (with_fact r.now c fact) o
+      go None e =
+          absurd (let no : IsTrue (fits_at None fact) = subst (λ (x : Option Question). IsTrue (fits_at x fact)) (asks ∙ e) fit in
+          false≢true no)
+      go (Some q) e =
+          told_remembers s (list_at r.members c.member) r.now c q fact o (ap (λ (x : Standing). x.facts) is.kept.talk.went) e
+          (subst (λ (x : Option Question). IsTrue (fits_at x fact)) (asks ∙ e) fit) was.in_turn (left q e)

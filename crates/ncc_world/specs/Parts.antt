@@ -162,7 +162,7 @@ pub record Offered (s : Setup) (r : ListRun) (c : Client) (p : Proposal) (old ne
   pub clock : new.clock ≡ old.clock
   pub clients : new.clients ≡ old.clients
   pub told : new.told ≡ old.told
-  pub earlier : new.earlier ≡ old.earlier
+  pub earlier : new.earlier.items ≡ old.earlier.items
   pub grows : Begins old.members.items new.members.items
 
 -- it stands for a run that this reply makes

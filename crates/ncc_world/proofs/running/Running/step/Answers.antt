@@ -52,6 +52,7 @@ returns-in-Time c = record {
         members = k.members;
         clients = k.clients;
         told = k.told;
+        earlier = record { count = k.earlier.count; each = k.earlier.each };
       });
 }
 
