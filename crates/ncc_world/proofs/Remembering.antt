@@ -31,7 +31,10 @@ use Rattle.ncc_world.specs.Setting.{Lists, cluster_of, list_at}
 use Rattle.ncc_world.specs.Happening.{ListRun, start_of}
 use Rattle.ncc_world.specs.Earlier.{Left, open_behind, InTurn, IsOfOpen, IsKeptOf, Remembers, AllRemember}
 use Rattle.ncc_world.specs.Earlier.{IsOfAllButLast, IsFrom, IsRan, LeftBy, LeftFor}
-use Rattle.ncc_world.specs.World.{IsClient}
+use Rattle.ncc_world.specs.World.{IsClient, asked_by}
+use Rattle.ncc_world.specs.Parts.{LeftAt, LeftIn}
+use Rattle.ncc_world.specs.declared.answer.Reply as declared
+use Rattle.ncc_world.specs.declared.answer.Reply.TheVariants as answer
 use Rattle.ncc_world.proofs.Begun.{begins_length}
 
 -- ---- the transaction that is open
@@ -298,3 +301,25 @@ all_told s es line r i c v seen fact o k within there is fit left =
       go (Some q) e =
           told_remembers s (list_at r.members c.member) r.now c q fact o (ap (λ (x : Standing). x.facts) is.kept.talk.went) e
           (subst (λ (x : Option Question). IsTrue (fits_at x fact)) (asks ∙ e) fit) was.in_turn (left q e)
+
+-- a connection that asks has the question of its session
+pub asks_as_served : (s : Setup) (v : Served) (seen : ConnSeen) (c : Client) (q : Question) → IsClient s v seen c → asked_by v ≡ Some q
+    → asked_at (talk_of (cluster_of s) c).core ≡ Some q
+asks_as_served s v seen c q is e = go v.closed refl where
+  still : asked v.conn ≡ asked_at (talk_of (cluster_of s) c).core
+  still = ap (λ (b : Bool). cond b None (asked_at v.conn.place)) is.kept.talk.fine
+      ∙ ap asked_at (sym (ap (λ (x : Standing). x.core) is.kept.talk.went))
+
+  go : (b : Bool) → v.closed ≡ b → asked_at (talk_of (cluster_of s) c).core ≡ Some q
+  go true h = absurd (let no : None ≡ Some q = ap (λ (b : Bool). cond b None (asked v.conn)) (sym h) ∙ e in cc)
+  go false h = sym still ∙ (ap (λ (b : Bool). cond b None (asked v.conn)) (sym h) ∙ e)
+
+-- what is kept behind an answer to its question
+pub left_at : (s : Setup) (r : ListRun) (c : Client) (a : declared.Reply) (q : Question) → asked_at (talk_of (cluster_of s) c).core ≡ Some q
+    → LeftIn (list_at r.members c.member) q a → LeftAt s r c a
+left_at s r c answer.Waits q e k = tt
+left_at s r c answer.Proposes q e k = tt
+left_at s r c (answer.Tells fact o) q e k = λ other asks.
+    let both : Some q ≡ Some other = sym e ∙ asks in
+    let same : q ≡ other = cc in
+    subst (λ (x : Question). LeftBy (list_at r.members c.member) x fact o) same k
