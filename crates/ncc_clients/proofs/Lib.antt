@@ -9,6 +9,7 @@ pub mod Keeping
 pub mod Vanishing
 pub mod Claims
 pub mod Lawfully
+pub mod Needing
 pub mod Resting
 pub mod Turning
 pub mod Entries
