@@ -1,7 +1,7 @@
 -- A transaction ends at or behind the place that it needs.
-use Rattle.std.proofs.Common.{◌≡◌, ℕ, ◌+◌, ◌-◌, ◌<◌, ◌≤◌, Bool, true, false, inl, inr, List, [], ◌∷◌, ◌++◌, map, Some, refl, ap, sym, ◌∙◌}
+use Rattle.std.proofs.Common.{◌≡◌, ℕ, ◌-◌, ◌≤◌, Bool, true, false, inl, inr, List, [], ◌∷◌, ◌++◌, map, Some, refl, ap, sym, ◌∙◌}
 use Rattle.std.proofs.Common.{arith, subst}
-use Rattle.std.specs.Prelude.{slice_get, ◌==◌, if◌then◌else◌, take}
+use Rattle.std.specs.Prelude.{◌==◌, if◌then◌else◌, take}
 use Rattle.ncc_store.specs.Exec.{call_of}
 use Rattle.ncc_tx.specs.declared.entry.Entry.{Entry}
 use Rattle.ncc_tx.specs.declared.entry.Entry.TheVariants as e
@@ -13,16 +13,16 @@ use Rattle.ncc_session.specs.Question.{Question, leave, leave_noop, Output, ques
 use Rattle.ncc_session.specs.Session.{Standing, session}
 use Rattle.ncc_clients.specs.Members.{Cluster, applied, at_of, config_of}
 use Rattle.ncc_clients.specs.Run.{Run, Client, Placing, begun, talk_of, question_of, accepted, with_placing}
-use Rattle.ncc_clients.specs.Moment.{IsOpen, Proposes, Path}
+use Rattle.ncc_clients.specs.Moment.{IsOpen, Path}
 use Rattle.ncc_clients.specs.Four.{Four}
 use Rattle.ncc_clients.specs.Lawful.{needed, need_of}
-use Rattle.ncc_clients.specs.Laws.{IsAnswered, Refuses, EndsBehind, StandsBehindItsNeed, GoesOn}
+use Rattle.ncc_clients.specs.Laws.{Refuses, EndsBehind, StandsBehindItsNeed, GoesOn}
 use Rattle.ncc_clients.proofs.Lists.{set_same}
 use Rattle.ncc_clients.proofs.Known.{Known}
 use Rattle.ncc_clients.proofs.Says.{Says, Finds, is_said, says_entered, says_late, says_rows, says_faulted, says_elsewhere}
 use Rattle.ncc_clients.proofs.Says.{says_done, says_nothing, says_found, says_unsure, says_routed}
 use Rattle.ncc_clients.proofs.Asked.{FollowsOpen, open_leave, open_noop, need_reached}
-use Rattle.ncc_clients.proofs.Sound.{Waiting, Waits, Sound}
+use Rattle.ncc_clients.proofs.Sound.{Waiting, Waits}
 use Rattle.ncc_clients.proofs.Keeping.{sound_at, asked_is}
 use Rattle.ncc_clients.proofs.Vanishing.{nobody_vanishes}
 
