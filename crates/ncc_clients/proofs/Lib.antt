@@ -18,3 +18,4 @@ pub mod Whole
 pub mod Waiting
 pub mod Placed
 pub mod Sessions
+pub mod Firm

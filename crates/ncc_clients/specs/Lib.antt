@@ -5,3 +5,4 @@ pub mod Moment
 pub mod Four
 pub mod Lawful
 pub mod Laws
+pub mod Transacting

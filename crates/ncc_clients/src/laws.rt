@@ -2,6 +2,8 @@
 
 ghost use Rattle.ncc_clients.specs.Laws.{AllIsKept, OfEach, OneWay, RestForgetsNobody, TurnsAreSmall};
 
+ghost use Rattle.ncc_clients.specs.Transacting.{EntersOnce, RoutesAlone, TellsItsBookmark};
+
 use crate::members::Members;
 
 /// Where the four facts hold of a cluster, its clients are served as promised, in every run: each applied list begins the
@@ -23,4 +25,13 @@ pub fn one_way<M: Members>()
         (record { lists = M.lists; leads = M.leads; leader = M.leader; propose = M.propose; Moves = M.moves }) }
     ensures same { OfEach OneWay
         (record { lists = M.lists; leads = M.leads; leader = M.leader; propose = M.propose; Moves = M.moves }) }
+{}
+
+/// The session of a client that opens at most one transaction asks to enter at most once, for the greatest place that BEGIN presents. A
+/// bookmark that a session tells has the place at which it was told that a transaction is done. A client that asks for a routing table
+/// at most is told none.
+pub fn one_transaction()
+    ensures enters { EntersOnce }
+    ensures tells { TellsItsBookmark }
+    ensures routes { RoutesAlone }
 {}
