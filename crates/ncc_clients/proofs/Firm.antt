@@ -70,7 +70,7 @@ value_text total hold t rest le =
 key_takes : (total : ℕ) (t rest : List ℕ) (y : List ℕ × List ℕ) → length t ≤ max_size → key_at total (text t ++ rest) ≡ Ok y → y ≡ (t, rest)
 key_takes total t rest y le e = text_takes total t rest y (sym (key_is total t rest le) ∙ e)
 
-short_text : (t : List ℕ) → short (v.Text t) ≡ text t
+pub short_text : (t : List ℕ) → short (v.Text t) ≡ text t
 short_text t = ap short (sym (v.rolls-Text t)) ∙ fold-roll-Value (List ℕ) (List ℕ) short_step node_step (Value-F.Text t)
 
 text_by : (total : ℕ) (hold : Holders) (t : List ℕ) → length t ≤ max_size → Firm (value_with total hold) (text t)
@@ -98,7 +98,7 @@ items_firm one f (x ∷ xs) all rest y e =
     ap (λ (z : List _ × List ℕ). z.1) (sym (ok_is (first.0.0 ∷ others.0.0, others.0.1) y others.2))
     ∙ items_firm one f xs all.1 rest others.0 (ap (items_at one (length xs)) (sym at) ∙ others.1)
 
-short_list : (xs : List Value) → short (v.List xs) ≡ list (map short xs)
+pub short_list : (xs : List Value) → short (v.List xs) ≡ list (map short xs)
 short_list xs = ap short (sym (v.rolls-List xs)) ∙ fold-roll-Value (List ℕ) (List ℕ) short_step node_step (Value-F.List xs)
 
 list_front : (xs : List Value) (rest : List ℕ) (hd : Heads k.List (length xs) (head lists (length xs)))

@@ -19,3 +19,4 @@ pub mod Waiting
 pub mod Placed
 pub mod Sessions
 pub mod Firm
+pub mod Honest
