@@ -20,3 +20,4 @@ pub mod Placed
 pub mod Sessions
 pub mod Firm
 pub mod Honest
+pub mod Streams
