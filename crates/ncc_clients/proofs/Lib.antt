@@ -21,3 +21,5 @@ pub mod Sessions
 pub mod Firm
 pub mod Honest
 pub mod Streams
+pub mod Moving
+pub mod Telling
