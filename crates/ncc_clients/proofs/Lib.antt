@@ -23,3 +23,5 @@ pub mod Honest
 pub mod Streams
 pub mod Moving
 pub mod Telling
+pub mod Walking
+pub mod Transacting

@@ -42,7 +42,7 @@ use Rattle.ncc_session.specs.Table.{turn_of}
 use Rattle.ncc_session.specs.Turns.{Turned, goes, freed, rests, fails, puts, refuses, without_steps, records, pulled, taken, left_in, are_left}
 use Rattle.ncc_session.specs.Turns.{kind_in, may_leave, ends_tx, ends_result, goes_on, pulls, pulls_wish, pulls_rows, runs_entered, answered, tx_in}
 use Rattle.ncc_session.specs.Turns.{with_rows, columns_meta, tells_columns, told_meta, tells_done, after_begin, after_enter, after_step, after_run}
-use Rattle.ncc_session.specs.Turns.{after_end, after_leave, after_route, heard}
+use Rattle.ncc_session.specs.Turns.{refusal_of, after_end, after_leave, after_route, heard}
 use Rattle.ncc_session.specs.Session.{Input, shaken, message, too_long, shaken_as, behind_shake, end_of, stream_inputs, stream_of, inputs_of}
 use Rattle.ncc_session.specs.Session.{Standing, on_shake, counted, fault_at, on_live, ends, move, start, session}
 use Rattle.ncc_session.proofs.Holding.{replies_ask}
@@ -66,7 +66,7 @@ module _ (config : ConnConfig) (all : List Fact) where
       WasEnded qs × (place : ℕ) × WasDoneAt all place × (text ≡ text_of (record { cluster = config.members.cluster; place = place }))
 
   abbrev Honest : List Question → List ℕ → Type 0
-  Honest qs message = (text : List ℕ) → TellsBookmark message text → Claims qs text
+  Honest qs m = (text : List ℕ) → TellsBookmark m text → Claims qs text
 
   abbrev Fine : List Question → Output → Type 0
   Fine qs (asked q) = Unit {0}
@@ -193,11 +193,11 @@ module _ (config : ConnConfig) (all : List Fact) where
 
     begin_good : (p : Place) (write : Bool) (fact : Fact) → Good qs (after_begin p write fact)
     begin_good p write (f.Entered at) = open_good p _ _ [] none_silent
-    begin_good p write _ = fail_good p _
+    begin_good p write fact = fail_good p (refusal_of fact)
 
     enter_good : (p : Place) (write : Bool) (call : Call) (fact : Fact) → Good qs (after_enter p write call fact)
     enter_good p write call (f.Entered at) = put_good p _ _
-    enter_good p write call _ = fail_good p _
+    enter_good p write call fact = fail_good p (refusal_of fact)
 
     columns_silent : (state : ConnState) (calls : List Call) (number : ℕ)
         → IsSilent (short_response (s.Success (columns_meta state calls number)))
@@ -211,11 +211,11 @@ module _ (config : ConnConfig) (all : List Fact) where
         (fail_good p r.TooLarge)
         (open_good p _ (with_rows calls tx rows) (columns_meta p.state calls (length tx.told))
         (columns_silent p.state calls (length tx.told)))
-    step_good p calls tx _ = fail_good p _
+    step_good p calls tx fact = fail_good p (refusal_of fact)
 
     run_good : (p : Place) (q : Question) (tx : Tx) (fact : Fact) → Good qs (after_run p q tx fact)
     run_good p (run calls) tx fact = step_good p calls tx fact
-    run_good p _ tx fact = fail_good p _
+    run_good p _ tx fact = fail_good p (refusal_of fact)
 
     -- what is told at this place is told of a transaction that ended
     told_tells : (state : ConnState) (calls : List Call) (at : ℕ)
@@ -243,16 +243,16 @@ module _ (config : ConnConfig) (all : List Fact) where
     end_good : (p : Place) (calls : List Call) (fact : Fact) → WasEnded qs → Contains all fact → Good qs (after_end config p calls fact)
     end_good p calls (f.Done at) ended among = done_good p p.state calls at ended (inr among)
     end_good p calls (f.Placed at) ended among = done_good p p.state calls at ended (inl among)
-    end_good p calls _ ended among = fail_good p _
+    end_good p calls fact ended among = fail_good p (refusal_of fact)
 
     left_good : (p : Place) (q : Question) (fact : Fact) → Contains qs q → Contains all fact → Good qs (after_leave config p q fact)
     left_good p (leave calls told) fact there among = end_good p calls fact (calls, told, there) among
-    left_good p _ fact there among = fail_good p _
+    left_good p _ fact there among = fail_good p (refusal_of fact)
 
     route_good : (p : Place) (fact : Fact) → Good qs (after_route config p fact)
     route_good p (f.Routed leader) =
         rest_good p Ready (table_meta config.members leader config.ttl) (table_silent config.members leader config.ttl)
-    route_good p _ = fail_good p _
+    route_good p fact = fail_good p (refusal_of fact)
 
     heard_good : (p : Place) (q : Question) (n : Next) (fact : Fact) → Contains qs q → Contains all fact → Good qs (heard config p q n fact)
     heard_good p q (begins write) fact there among = begin_good p write fact
@@ -412,5 +412,4 @@ module _ (config : ConnConfig) (bytes : List ℕ) (facts : List Fact) where
       (nothing_told config facts (wrote (0 ∷ 0 ∷ 0 ∷ 0 ∷ []) ∷ []) refl))
 
 pub tells_its_bookmark : TellsItsBookmark
-tells_its_bookmark config bytes facts message text c t =
-    by_shake config bytes facts (answer_to (handshake_of bytes)) refl message c text t
+tells_its_bookmark config bytes facts m text c t = by_shake config bytes facts (answer_to (handshake_of bytes)) refl m c text t
