@@ -25,3 +25,4 @@ pub mod Moving
 pub mod Telling
 pub mod Walking
 pub mod Transacting
+pub mod Routing

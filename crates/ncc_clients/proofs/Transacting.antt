@@ -247,7 +247,7 @@ module _ (config : ConnConfig) (extra : Pairs) where
       → Next_ (answered config (counted (at TxReady (opened tx) number)) (turn_of TxReady m)) qs xs
   in_ready number tx (q.Run query params given) qs xs h once =
       step_after (freed (counted (at TxReady (opened tx) number))) tx query params qs xs open_ready h once
-  in_ready number tx (q.Pull given) qs xs h once = fail_after _ r.OutOfPlace qs xs h once
+  in_ready number tx (q.Pull given) qs xs h once = fail_after (counted (at TxReady (opened tx) number)) r.OutOfPlace qs xs h once
   in_ready number tx q.Commit qs xs h once = commit_after (freed (counted (at TxReady (opened tx) number))) tx qs xs open_ready h once
   in_ready number tx q.Goodbye qs xs h once = quiet _ qs xs refl once
   in_ready number tx _ qs xs h once = absurd h
