@@ -75,23 +75,23 @@ Routes bytes = (requests : List Request) × LogsIn IsRouting requests × Sent re
 
 -- ---- what is asked
 
--- what each question needs that asks to enter
-abbrev pub entrances : List Question → List ℕ
-entrances [] = []
-entrances (enter need ∷ questions) = need ∷ entrances questions
-entrances (_ ∷ questions) = entrances questions
+-- a question that does not ask to enter
+abbrev pub AsksElse : Question → Type 0
+AsksElse (enter need) = ⊥
+AsksElse _ = Unit {0}
 
--- none asks, or one, and what it needs is the greatest place that the dictionary presents, 0 where it presents none
-abbrev pub AtMostOnce : ℕ → Pairs → List ℕ → Type 0
-AtMostOnce cluster extra [] = Unit {0}
-AtMostOnce cluster extra (need ∷ []) = (places : List ℕ) × Presents cluster extra places × IsGreatest need places
-AtMostOnce cluster extra _ = ⊥
+-- Nothing is asked; or first to enter, which needs the greatest place that the dictionary presents, 0 where it presents none, and not again.
+abbrev pub AsksOnce : ℕ → Pairs → List Question → Type 0
+AsksOnce cluster extra [] = Unit {0}
+AsksOnce cluster extra (enter need ∷ questions) =
+    ((places : List ℕ) × Presents cluster extra places × IsGreatest need places) × AllByRecursion AsksElse questions
+AsksOnce cluster extra _ = ⊥
 
--- The session of a client that opens at most one transaction asks to enter at most once.
+-- The session of a client that opens at most one transaction asks to enter at most once, before all else.
 abbrev pub EntersOnce : Type 0
 EntersOnce =
     (config : ConnConfig) (extra : Pairs) (bytes : List ℕ) (facts : List Fact) → Transacts extra bytes
-    → AtMostOnce config.members.cluster extra (entrances (questions_of (session config bytes facts).written))
+    → AsksOnce config.members.cluster extra (questions_of (session config bytes facts).written)
 
 -- ---- what is told
 
