@@ -1,6 +1,6 @@
 -- A world of which nothing has happened.
 use Rattle.std.proofs.Common.{◌≡◌, ℕ, zero, suc, ◌+◌, ◌<◌, List, [], ◌∷◌, ◌++◌, length, get_or, refl, ap, sym, ◌∙◌, subst, arith, replicate}
-use Rattle.ncc_tx.specs.declared.entry.Item.{Item}
+use Rattle.std.specs.Map.{keys_of, values_of}
 use Rattle.ncc_wait.specs.declared.parked.Parked.{Parked}
 use Rattle.ncc_world.specs.declared.setup.Setup.{Setup}
 use Rattle.ncc_world.specs.declared.seen.ConnSeen.{ConnSeen}
@@ -28,11 +28,13 @@ pub count_same : {X : Type 0} (n : ℕ) (x : X) → length (replicate n x) ≡ n
 count_same zero x = refl
 count_same (suc n) x = ap suc (count_same n x)
 
-pub no_clients : (s : Setup) (count : ℕ) (table : List Served) (seen : List ConnSeen) (rooms : List (List Parked)) → table ≡ [] → seen ≡ []
-    → rooms ≡ replicate count [] → AreServed s count (record { table = table; seen = seen; rooms = rooms }) []
-no_clients s count table seen rooms e f g = record {
-  each = subst (λ (x : List Served). AreClients s x seen []) (sym e) (subst (λ (x : List ConnSeen). AreClients s [] x []) (sym f) (none_each s));
+pub no_clients : (s : Setup) (count : ℕ) (es : List (ℕ × Served)) (seen : List ConnSeen) (rooms : List (List Parked)) → es ≡ [] → seen ≡ []
+    → rooms ≡ replicate count [] → AreServed s count (record { numbers = keys_of es; table = values_of es; seen = seen; rooms = rooms }) []
+no_clients s count es seen rooms e f g = record {
+  each = subst (λ (x : List (ℕ × Served)). AreClients s (values_of x) seen []) (sym e)
+      (subst (λ (x : List ConnSeen). AreClients s [] x []) (sym f) (none_each s));
   numbered = none_numbered;
+  keyed = ap keys_of e;
   there = tt;
   count_is = ap length g ∙ count_same count [];
   rooms = λ i l. let none : List Parked = [] in

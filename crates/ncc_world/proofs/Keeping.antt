@@ -14,6 +14,7 @@ use Rattle.ncc_world.specs.declared.served.Change.{Change}
 use Rattle.ncc_world.specs.declared.served.Change.TheVariants as change
 use Rattle.ncc_world.specs.Parts.{MayChange, changed, parked_anew}
 use Rattle.ncc_world.proofs.Rooms.{get_or_any, parked_set, parked_other, numbered_set}
+use Rattle.ncc_world.proofs.Tables.{numbers_set}
 use Rattle.ncc_world.specs.declared.setup.Setup.{Setup}
 use Rattle.ncc_world.specs.declared.seen.ConnSeen.{ConnSeen}
 use Rattle.ncc_world.specs.declared.served.Served.{Served}
@@ -162,11 +163,17 @@ pub changed_all : (s : Setup) (count : ℕ) (k : KeptClients) (clients : List Cl
     (room old : List Parked) (wait : ℕ) → AreServed s count k clients → slice_get clients index ≡ Some c → IsThere count c → Same c d
     → IsClient s w shown d → s.wait ≡ wait → old ≡ get_or k.rooms (shown.member - 1) old
     → room ≡ parked_anew shown.conn (parked_by shown.conn (min (w.since + wait) (2 ^ 64 - 1)) (placing_of w.placing) (asked_by w)) old
-    → AreServed s count (record { table = slice_set k.table index w; seen = slice_set k.seen index shown; rooms = slice_set k.rooms (shown.member - 1) room })
+    → AreServed s count (record {
+      numbers = k.numbers;
+      table = slice_set k.table index w;
+      seen = slice_set k.seen index shown;
+      rooms = slice_set k.rooms (shown.member - 1) room;
+    })
     (slice_set clients index d)
 changed_all s count k clients index c d w shown room old wait a there is same client e o f = record {
   each = clients_set s k.table k.seen clients index w shown d a.each client;
   numbered = numbered_set 1 index clients c d a.numbered there same.number;
+  keyed = a.keyed ∙ numbers_set index clients c d there same.number;
   there = there_set (IsThere count) clients index d a.there (record {
     low = omega (arith, is.low, same.member);
     high = omega (arith, is.high, same.member);

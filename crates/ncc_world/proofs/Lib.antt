@@ -22,3 +22,4 @@ pub mod Fitting
 pub mod Proposing
 pub mod Happened
 pub mod Fresh
+pub mod Tables

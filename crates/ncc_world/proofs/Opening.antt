@@ -18,6 +18,7 @@ use Rattle.ncc_world.specs.Showing.{conn_seen}
 use Rattle.ncc_world.specs.World.{AreServed, IsClient, IsThere, KeptClients, parked_by, parked_of, placing_of}
 use Rattle.ncc_world.proofs.Keeping.{clients_more, there_more}
 use Rattle.ncc_world.proofs.Rooms.{parked_more, numbered_more}
+use Rattle.ncc_world.proofs.Tables.{numbers_more}
 
 -- a session of nothing stands where each session begins
 pub begins : (config : ConnConfig) → session config [] [] ≡ still start [] []
@@ -94,12 +95,18 @@ is_client s v number member now printed k = record {
 -- with one more connection
 pub opened_one : (s : Setup) (count : ℕ) (k : KeptClients) (clients : List Client) (v : Served) (number member now : ℕ) (printed : Bool)
     → AreServed s count k clients → number ≡ length clients + 1 → 1 ≤ member → member ≤ count → IsNew s v number now
-    → AreServed s count (record { table = k.table ++ (v ∷ []); seen = k.seen ++ (shown number member printed ∷ []); rooms = k.rooms })
+    → AreServed s count (record {
+      numbers = k.numbers ++ (number ∷ []);
+      table = k.table ++ (v ∷ []);
+      seen = k.seen ++ (shown number member printed ∷ []);
+      rooms = k.rooms;
+    })
     (clients ++ (fresh number member now printed ∷ []))
 opened_one s count k clients v number member now printed are e low high new = record {
   each = clients_more s k.table k.seen clients v (shown number member printed) (fresh number member now printed) are.each
       (is_client s v number member now printed new);
   numbered = numbered_more 1 clients (fresh number member now printed) are.numbered (omega (arith, e));
+  keyed = ap (λ (l : List ℕ). l ++ (number ∷ [])) are.keyed ∙ numbers_more clients (fresh number member now printed);
   there = there_more (IsThere count) clients (fresh number member now printed) are.there (record { low = low; high = high; placed = tt });
   count_is = are.count_is;
   rooms = λ index within. are.rooms index within

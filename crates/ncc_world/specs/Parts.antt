@@ -1,6 +1,7 @@
 -- What the parts of a world do. No public clause speaks of it.
 use Rattle.std.specs.Prelude.{◌≡◌, ℕ, ◌+◌, ◌<◌, Bool, true, false, if◌then◌else◌, ◌||◌, min, nat_lt, List, [], ◌∷◌, ◌++◌, length}
 use Rattle.std.specs.Prelude.{Option, Some, None, slice_get, slice_set, IsTrue}
+use Rattle.indexmap.specs.IndexMap.{keys, values}
 use Rattle.ncc_wait.specs.declared.outcomes.Outcome.{Outcome}
 use Rattle.ncc_wait.specs.declared.parked.Parked.{Parked}
 use Rattle.ncc_wait.specs.Room.{put, without}
@@ -33,7 +34,7 @@ abbrev pub members_in : Members → KeptMembers
 members_in m = record { items = m.items; shelves = m.shelves.items; seen = m.seen }
 
 abbrev pub clients_in : Clients → KeptClients
-clients_in k = record { table = k.table.items; seen = k.seen; rooms = k.rooms.items }
+clients_in k = record { numbers = keys k.table; table = values k.table; seen = k.seen; rooms = k.rooms.items }
 
 abbrev pub run_in : Running → KeptRun
 run_in w = record { now = w.clock; members = members_in w.members; clients = clients_in w.clients; told = w.told }

@@ -55,9 +55,10 @@ pub record AreMembers (s : Setup) (m : KeptMembers) (lists : Lists) : Type 0 whe
   pub some : 0 < length lists
   pub seen : m.seen ≡ members_from s 1 lists
 
--- ---- connections: what is kept of each, what each shows, and who waits at each member
+-- ---- connections: their numbers, what is kept of each, what each shows, and who waits at each member
 
 pub record KeptClients : Type 0 where
+  pub numbers : List ℕ
   pub table : List Served
   pub seen : List ConnSeen
   pub rooms : List (List Parked)
@@ -138,6 +139,8 @@ parked_at s member (c ∷ cs) = parked_one s member c ++ parked_at s member cs
 pub record AreServed (s : Setup) (count : ℕ) (k : KeptClients) (clients : List Client) : Type 0 where
   pub each : AreClients s k.table k.seen clients
   pub numbered : AreNumbered 1 clients
+  -- each is kept by its number
+  pub keyed : k.numbers ≡ map (λ (c : Client). c.number) clients
   pub there : AllByRecursion (IsThere count) clients
   pub count_is : length k.rooms ≡ count
   pub rooms : (index : ℕ) → index < count → slice_index_or k.rooms index [] ≡ parked_at s (index + 1) clients

@@ -1,6 +1,7 @@
 //! The connections of a world.
 
 ghost use Rattle.std.specs.Prelude.{◌≡◌, ◌+◌, ◌-◌, ◌^◌, ◌<◌, ◌≤◌, ℕ, [], List, Some, min, replicate, length, slice_get, slice_set, slice_index_or, IfOk, OnOk};
+ghost use Rattle.indexmap.specs.IndexMap.{values};
 ghost use Rattle.ncc_session.specs.Core.{question_of};
 ghost use Rattle.ncc_clients.specs.Run.{Client, opened};
 ghost use Rattle.ncc_world.specs.Setting.{IsSetup};
@@ -15,15 +16,17 @@ use crate::seen::{ConnList, ConnSeen};
 use crate::served::{Change, Place, Served, alter, question, show};
 use crate::setup::Setup;
 use crate::taken::taken;
+use indexmap::IndexMap;
 use ncc_pack::{Bytes, Memory, Sequence};
 use ncc_session::{Ask, Conn};
 use ncc_wait::Room;
 use std::alloc::Global;
 
-/// What is kept of each connection, what each shows, and who waits at each member.
+/// What is kept of each connection, by its number, what each shows, and who waits at each member. They are numbered as they are opened
+/// and none is taken out, so the one of index 0 has the number 1.
 #[derive(Drop)]
 pub(crate) struct Clients {
-    pub(crate) table: Vec<Served>,
+    pub(crate) table: IndexMap<u64, Served>,
     pub(crate) seen: ConnList,
     pub(crate) rooms: Vec<Room>,
 }
@@ -85,10 +88,18 @@ impl Clients {
     {
         let rooms = rooms(alloc, count)?;
         Ok(Clients {
-            table: Vec::new(alloc),
+            table: IndexMap::new(alloc),
             seen: Sequence::new(alloc),
             rooms,
         })
+    }
+
+    /// What is kept of the connection at an index, from 0.
+    pub(crate) fn served(&self, index: usize) -> &Served
+        requires there { index < length (values self.now.table) }
+        ensures is { result.now ≡ slice_index_or (values self.now.table) index result.now }
+    {
+        &self.table[index]
     }
 
     /// What the connection at an index, from 0, shows.
@@ -107,9 +118,9 @@ impl Clients {
         what: Change,
         now: u64,
     ) -> Result<(), Memory>
-        requires there { index < length self.old.table.items }
+        requires there { index < length (values self.old.table) }
         requires served { HasClients self.old }
-        requires may { (v : Serveds) → slice_get self.old.table.items index ≡ Some v → MayChange what v.conn }
+        requires may { (v : Serveds) → slice_get (values self.old.table) index ≡ Some v → MayChange what v.conn }
         ensures ok { OnOk result ((s : Setups) (count : ℕ) (clients : List Client) (c : Client) → AreServed s count (clients_in self.old) clients →
             slice_get clients index ≡ Some c → s.wait ≡ wait →
             AreServed s count (clients_in self.new) (slice_set clients index (changed s now c what))) }
@@ -135,19 +146,21 @@ impl Clients {
         now: u64,
     ) -> Result<(), Memory>
         requires allowed { IsSetup setup.now }
-        ensures more { OnOk result (length self.new.table.items ≡ length self.old.table.items + 1) }
+        requires served { HasClients self.old }
+        ensures more { OnOk result (length (values self.new.table) ≡ length (values self.old.table) + 1) }
         ensures ok { OnOk result ((r : ListRun) → AreServed setup.now (length r.members) (clients_in self.old) r.clients →
             now ≡ r.now → (1 ≤ member) × (member ≤ length r.members) →
             AreServed setup.now (length r.members) (clients_in self.new) (opened r member printed).clients) }
     {
         let number = self.table.len() as u64 + 1;
         let conn = Conn::new(alloc, config(alloc, setup, number)?)?;
-        self.table.push(Served {
+        let served = Served {
             conn,
             since: now,
             placing: None,
             closed: false,
-        })?;
+        };
+        self.table.insert(number, served)?;
         self.seen.push(ConnSeen {
             conn: number,
             member,

@@ -1,6 +1,7 @@
 //! The run of a world.
 
 ghost use Rattle.std.specs.Prelude.{◌≡◌, ◌≢◌, ◌+◌, ◌<◌, length, Some, None, true, slice_get, IfOk, OnOk, IsTrue};
+ghost use Rattle.indexmap.specs.IndexMap.{values};
 ghost use Rattle.ncc_session.specs.Talk.{asked, fits_at};
 ghost use Rattle.ncc_clients.specs.Run.{Client, reply, proposes, told_to, opened, moved};
 ghost use Rattle.ncc_clients.specs.Turn.{acts, Settles};
@@ -78,11 +79,11 @@ impl Running {
     // What its member does with the question of the connection at an index.
     fn reply_at(&self, alloc: Global, setup: &Setup, index: usize) -> Result<Reply, Memory>
         requires live { HasRun setup.now self.now }
-        requires there { index < length self.now.clients.table.items }
+        requires there { index < length (values self.now.clients.table) }
         ensures exact { IfOk result (λ a. (r : ListRun) (c : Client) → RunsAs setup.now (run_in self.now) r → slice_get r.clients index ≡ Some c →
             reply_in a ≡ reply (cluster_of setup.now) r c) }
     {
-        let served = &self.clients.table[index];
+        let served = self.clients.served(index);
         let member = self.clients.shown(index).member;
         match question(served) {
             None => Ok(Reply::Waits),
@@ -102,8 +103,8 @@ impl Running {
     // Tells the connection at an index a fact that answers its question.
     fn tell(&mut self, setup: &Setup, line: u64, index: usize, fact: Fact) -> Result<(), Memory>
         requires live { HasRun setup.now self.old }
-        requires there { index < length self.old.clients.table.items }
-        requires fits { (v : Serveds) → slice_get self.old.clients.table.items index ≡ Some v → IsTrue (fits_at (asked v.conn) fact) }
+        requires there { index < length (values self.old.clients.table) }
+        requires fits { (v : Serveds) → slice_get (values self.old.clients.table) index ≡ Some v → IsTrue (fits_at (asked v.conn) fact) }
         ensures ok { OnOk result ((r : ListRun) (c : Client) → RunsAs setup.now (run_in self.old) r → slice_get r.clients index ≡ Some c →
             RunsAs setup.now (run_in self.new) (told_to line r index c fact)) }
     {
@@ -121,14 +122,14 @@ impl Running {
     // Proposes the entry of the question of the connection at an index at its member.
     fn offer(&mut self, setup: &Setup, index: usize) -> Result<Proposal, Memory>
         requires live { HasRun setup.now self.old }
-        requires there { index < length self.old.clients.table.items }
+        requires there { index < length (values self.old.clients.table) }
         requires asks { (r : ListRun) (c : Client) → RunsAs setup.now (run_in self.old) r → slice_get r.clients index ≡ Some c →
             reply (cluster_of setup.now) r c ≡ proposes }
         ensures ok { IfOk result (λ p. (r : ListRun) (c : Client) → RunsAs setup.now (run_in self.old) r → slice_get r.clients index ≡ Some c →
             Offered setup.now r c p self.old self.new) }
     {
         let member = self.clients.shown(index).member;
-        let Some(ask) = question(&self.clients.table[index]) else {
+        let Some(ask) = question(self.clients.served(index)) else {
             return Ok(Proposal::Elsewhere);
         };
         match ask {
@@ -145,7 +146,7 @@ impl Running {
     // Proposes the entry of the question of the connection at an index. Where it is not accepted, the connection is told so.
     fn propose(&mut self, setup: &Setup, line: u64, index: usize) -> Result<(), Memory>
         requires live { HasRun setup.now self.old }
-        requires there { index < length self.old.clients.table.items }
+        requires there { index < length (values self.old.clients.table) }
         requires asks { (r : ListRun) (c : Client) → RunsAs setup.now (run_in self.old) r → slice_get r.clients index ≡ Some c →
             reply (cluster_of setup.now) r c ≡ proposes }
         ensures ok { OnOk result ((r : ListRun) (c : Client) → RunsAs setup.now (run_in self.old) r → slice_get r.clients index ≡ Some c →
@@ -172,7 +173,7 @@ impl Running {
         index: usize,
     ) -> Result<(), Memory>
         requires live { HasRun setup.now self.old }
-        requires there { index < length self.old.clients.table.items }
+        requires there { index < length (values self.old.clients.table) }
         ensures ok { OnOk result ((r : ListRun) (c : Client) → RunsAs setup.now (run_in self.old) r → slice_get r.clients index ≡ Some c →
             acts (cluster_of setup.now) r c ≡ true → DoesTo setup.now line r index c (reply (cluster_of setup.now) r c) (run_in self.new)) }
     {
@@ -262,11 +263,11 @@ impl Running {
     // Bytes come in at the connection at an index. Once it is closed they do nothing.
     fn feed(&mut self, setup: &Setup, index: usize, piece: Bytes) -> Result<(), Memory>
         requires live { HasRun setup.now self.old }
-        requires there { index < length self.old.clients.table.items }
+        requires there { index < length (values self.old.clients.table) }
         ensures ok { OnOk result ((r : ListRun) → RunsAs setup.now (run_in self.old) r →
             RunsAs setup.now (run_in self.new) (feeds setup.now r index piece)) }
     {
-        if self.clients.table[index].closed {
+        if self.clients.served(index).closed {
             return Ok(());
         }
         let now = self.clock;
@@ -278,11 +279,11 @@ impl Running {
     // The client closes the connection at an index.
     fn close(&mut self, setup: &Setup, index: usize) -> Result<(), Memory>
         requires live { HasRun setup.now self.old }
-        requires there { index < length self.old.clients.table.items }
+        requires there { index < length (values self.old.clients.table) }
         ensures ok { OnOk result ((r : ListRun) → RunsAs setup.now (run_in self.old) r →
             RunsAs setup.now (run_in self.new) (closes_one r index (slice_get r.clients index))) }
     {
-        if self.clients.table[index].closed {
+        if self.clients.served(index).closed {
             return Ok(());
         }
         let now = self.clock;
@@ -302,7 +303,7 @@ impl Running {
         requires live { HasRun setup.now self.old }
         ensures ok { OnOk result ((r : ListRun) → RunsAs setup.now (run_in self.old) r → is_member r member ≡ true →
             RunsAs setup.now (run_in self.new) (opened r member printed)) }
-        ensures more { OnOk result (length self.new.clients.table.items ≡ length self.old.clients.table.items + 1) }
+        ensures more { OnOk result (length (values self.new.clients.table) ≡ length (values self.old.clients.table) + 1) }
     {
         let now = self.clock;
         self.clients.open(alloc, setup, member, printed, now)

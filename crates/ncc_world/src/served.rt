@@ -1,8 +1,9 @@
 //! One connection of a world.
 
-ghost use Rattle.std.specs.Prelude.{◌≡◌, Some, None, IfSome, IfNone, OnOk};
+ghost use Rattle.std.specs.Prelude.{◌≡◌, [], Some, None, IfSome, IfNone, OnOk};
 ghost use Rattle.ncc_session.specs.Core.{question_of};
 ghost use Rattle.ncc_session.specs.Session.{is_ended};
+ghost use Rattle.ncc_session.specs.Talk.{HandsOut};
 ghost use Rattle.ncc_clients.specs.Run.{Client, since_fed};
 ghost use Rattle.ncc_world.specs.declared.setup.Setup.{Setup};
 ghost use Rattle.ncc_world.specs.declared.seen.ConnSeen.{ConnSeen};
@@ -104,6 +105,18 @@ pub(crate) fn alter(served: &mut Served, change: Change, now: u64) -> Result<(),
     }
 }
 
+// What was written is shown. Its room is kept for what comes next, and given back where nothing comes.
+fn let_go(conn: &mut Conn, ended: bool)
+    ensures handed { HandsOut conn.old conn.old.out conn.new }
+    ensures rest { conn.new ≡ record conn.old { out = [] } }
+{
+    if ended {
+        conn.take_out();
+    } else {
+        conn.clear_out();
+    }
+}
+
 // Shows what a connection wrote last, and where it stands.
 pub(crate) fn show(served: &mut Served, seen: &mut ConnSeen) -> Result<(), Memory>
     ensures ok { OnOk result ((s : Setup) (c : Client) → IsKept s served.old seen.old c → IsClient s served.new seen.new c) }
@@ -111,8 +124,9 @@ pub(crate) fn show(served: &mut Served, seen: &mut ConnSeen) -> Result<(), Memor
     ensures member { seen.new.member ≡ seen.old.member }
 {
     seen.out.extend(served.conn.out())?;
-    served.conn.clear_out();
+    let ended = served.closed || has_ended(served.conn.state());
+    let_go(&mut served.conn, ended);
     seen.waiting = question(served).is_some();
-    seen.ended = served.closed || has_ended(served.conn.state());
+    seen.ended = ended;
     Ok(())
 }

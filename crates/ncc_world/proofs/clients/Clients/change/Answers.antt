@@ -1,13 +1,23 @@
-use Rattle.std.proofs.Common.{◌≡◌, ◌<◌, ◌≤◌, ◌+◌, ◌-◌, ◌^◌, min, ◌∙◌, ap, sym, length, arith, subst, List, get_or, Some}
+use Rattle.std.proofs.Common.{ℕ, ◌≡◌, ◌<◌, ◌≤◌, ◌+◌, ◌-◌, ◌^◌, min, ◌∙◌, ap, sym, length, arith, subst, List, get_or, Some}
 use Rattle.std.specs.Prelude.{slice_get, slice_set}
 use Rattle.ncc_world.specs.declared.seen.ConnSeen.{ConnSeen}
 use Rattle.ncc_world.specs.declared.served.Served.{Served}
-use Rattle.std.proofs.lemmas.Option.{slice_get-get_or}
+use Rattle.std.proofs.lemmas.Map.Entries.{length-values_of}
+use Rattle.std.specs.Map.{values_of}
+use Rattle.indexmap.specs.IndexMap.{keys, values, set_value_at, with_value_at}
+use Rattle.indexmap.proofs.CallerLemmas.{keys-with_value_at, index_map_len-with_value_at}
 use Rattle.std.proofs.lemmas.List.{get_or-set_same}
 use Rattle.ncc_world.specs.World.{AreServed, IsClient, asked_by, parked_by, placing_of}
 use Rattle.ncc_world.specs.Parts.{changed, parked_anew}
 use Rattle.ncc_world.proofs.Keeping.{Here, clients_count, client_at, there_at, here_at, changed_same, changed_all}
+use Rattle.ncc_world.proofs.Tables.{at_index, values_set}
 use Rattle.ncc_world.proofs.clients.Clients.change.Goals as goal
+
+pub index-requires-3 : goal.index-requires-3
+index-requires-3 c =
+    let m = c.args.self.now.table in
+    let w = c.change_one-changed.new.served in
+    omega (arith, c.requires.there, length-values_of m.entries, index_map_len-with_value_at m c.args.index w)
 
 pub index_mut-requires-2 : goal.index_mut-requires-2
 index_mut-requires-2 c =
@@ -31,7 +41,7 @@ pub change_one-changed-requires : goal.change_one-changed-requires
 change_one-changed-requires c =
     let v = c.index_mut.result.now in
     record {
-      may = c.requires.may v (slice_get-get_or _ c.args.index v c.requires.there ∙ ap (λ (x : Served). Some x) (sym c.index_mut.ensures.value));
+      may = c.requires.may v c.index_mut.ensures.value;
     }
 
 same_number : (a b m : ConnSeen) (low : 1 ≤ m.member) → a ≡ b → b.member ≡ m.member → 1 ≤ a.member
@@ -43,7 +53,8 @@ overflow_sub-member c =
     let n = clients_count k.setup _ _ k.clients k.are.each in
     let old = c.index_mut-2.result.now in
     let new = c.change_one-changed.new.seen in
-    let h = here_at k.setup k.count _ k.clients c.args.index c.index_mut.result.now old k.are c.requires.there c.index_mut.ensures.value
+    let h = here_at k.setup k.count _ k.clients c.args.index c.index_mut.result.now old k.are c.requires.there
+    (at_index _ c.args.index c.index_mut.result.now c.index_mut.ensures.value)
     (c.index_mut-2.ensures.value ∙ ap (λ (l : List ConnSeen). get_or l c.args.index old) c.taken-list.ensures.same) in
     let same : c.index-2.result.now ≡ new =
     c.index-2.ensures ∙ get_or-set_same c.taken-list.result.items c.args.index new c.index-2.result.now
@@ -56,7 +67,8 @@ index_mut-room-requires c =
     let n = clients_count k.setup _ _ k.clients k.are.each in
     let old = c.index_mut-2.result.now in
     let new = c.change_one-changed.new.seen in
-    let h = here_at k.setup k.count _ k.clients c.args.index c.index_mut.result.now old k.are c.requires.there c.index_mut.ensures.value
+    let h = here_at k.setup k.count _ k.clients c.args.index c.index_mut.result.now old k.are c.requires.there
+    (at_index _ c.args.index c.index_mut.result.now c.index_mut.ensures.value)
     (c.index_mut-2.ensures.value ∙ ap (λ (l : List ConnSeen). get_or l c.args.index old) c.taken-list.ensures.same) in
     let same : c.index-2.result.now ≡ new =
     c.index-2.ensures ∙ get_or-set_same c.taken-list.result.items c.args.index new c.index-2.result.now
@@ -72,7 +84,8 @@ returns c = record {
       let w = c.change_one-changed.new.served in
       let shown = c.change_one-changed.new.seen in
       let room = c.index_mut-room.result.now in
-      let table = c.args.self.now.table.items in
+      let m = c.args.self.now.table in
+      let table = values m in
       let seen = c.args.self.now.seen in
       let rooms = c.args.self.now.rooms.items in
       let n = clients_count s table seen clients a.each in
@@ -82,15 +95,18 @@ returns c = record {
       c.index.ensures ∙ get_or-set_same c.taken-list.result.items index shown c.index.result.now within in
       let e2 : c.index-2.result.now ≡ shown =
       c.index-2.ensures ∙ get_or-set_same c.taken-list.result.items index shown c.index-2.result.now within in
+      let wrote = values_set m.entries index w in
       let e3 : c.index-3.result.now ≡ w =
-      c.index-3.ensures ∙ get_or-set_same table index w c.index-3.result.now c.requires.there in
+      at_index (values_of (set_value_at m.entries index w)) index c.index-3.result.now c.index-3.ensures
+      ∙ ap (λ (l : List Served). get_or l index c.index-3.result.now) (sym wrote)
+      ∙ get_or-set_same table index w c.index-3.result.now c.requires.there in
       let list : c.from_vec.result ≡ slice_set seen index shown =
       c.from_vec.ensures.same ∙ ap (λ (l : List ConnSeen). slice_set l index shown) c.taken-list.ensures.same in
       let client : IsClient s v old d =
-      client_at s table seen clients index v old d a.each there c.index_mut.ensures.value
+      client_at s table seen clients index v old d a.each there (at_index table index v c.index_mut.ensures.value)
       (c.index_mut-2.ensures.value ∙ ap (λ (l : List ConnSeen). get_or l index old) c.taken-list.ensures.same) in
       let placed = there_at _ clients index d a.there there in
-      let may = c.requires.may v (slice_get-get_or table index v c.requires.there ∙ ap (λ (x : Served). Some x) (sym c.index_mut.ensures.value)) in
+      let may = c.requires.may v c.index_mut.ensures.value in
       let all = changed_all s count _ clients index d (changed s c.args.now d c.args.what) w shown c.park.new.room room c.args.wait a there
       placed (changed_same s c.args.now d c.args.what v.conn placed.placed may) (c.in_ok-changed.ensures.ok s d client) e
       (c.index_mut-room.ensures.value ∙ ap (λ (x : ConnSeen). get_or rooms (x.member - 1) room) e2)
@@ -100,13 +116,27 @@ returns c = record {
       ∙ ap (λ (x : Served). parked_anew shown.conn (parked_by shown.conn (min (x.since + c.args.wait) (2 ^ 64 - 1)) (placing_of x.placing)
       (asked_by x)) room) e3) in
       subst (λ (x : ConnSeen). AreServed s count (record {
-        table = slice_set table index w;
+        numbers = keys (with_value_at m index w);
+        table = values (with_value_at m index w);
         seen = c.from_vec.result;
         rooms = slice_set rooms (x.member - 1) c.park.new.room;
       }) (slice_set clients index (changed s c.args.now d c.args.what))) (sym e2)
       (subst (λ (l : List ConnSeen). AreServed s count (record {
-        table = slice_set table index w;
+        numbers = keys (with_value_at m index w);
+        table = values (with_value_at m index w);
         seen = l;
         rooms = slice_set rooms (shown.member - 1) c.park.new.room;
-      }) (slice_set clients index (changed s c.args.now d c.args.what))) (sym list) all);
+      }) (slice_set clients index (changed s c.args.now d c.args.what))) (sym list)
+      (subst (λ (l : List Served). AreServed s count (record {
+        numbers = keys (with_value_at m index w);
+        table = l;
+        seen = slice_set seen index shown;
+        rooms = slice_set rooms (shown.member - 1) c.park.new.room;
+      }) (slice_set clients index (changed s c.args.now d c.args.what))) wrote
+      (subst (λ (l : List ℕ). AreServed s count (record {
+        numbers = l;
+        table = slice_set table index w;
+        seen = slice_set seen index shown;
+        rooms = slice_set rooms (shown.member - 1) c.park.new.room;
+      }) (slice_set clients index (changed s c.args.now d c.args.what))) (sym (keys-with_value_at m index w)) all)));
 }

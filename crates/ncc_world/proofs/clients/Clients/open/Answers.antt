@@ -1,5 +1,10 @@
-use Rattle.std.proofs.Common.{◌≡◌, ◌∙◌, ◌+◌, ◌++◌, ◌∷◌, [], ℕ, List, None, false, length, ap, sym, subst, arith, refl}
+use Rattle.std.proofs.Common.{◌≡◌, ◌∙◌, ◌+◌, ◌++◌, ◌∷◌, [], ℕ, List, None, false, nat_eq, length, ap, sym, subst, arith, refl}
 use Rattle.std.proofs.lemmas.Result.{on_ok_weaker}
+use Rattle.std.proofs.lemmas.List.{length-append}
+use Rattle.std.proofs.lemmas.Map.Entries.{length-values_of}
+use Rattle.std.specs.Map.{keys_of, values_of}
+use Rattle.indexmap.specs.IndexMap.{get, values}
+use Rattle.indexmap.proofs.CallerLemmas.{insert_entry-new}
 use Rattle.ncc_session.specs.declared.config.ConnConfig.{ConnConfig}
 use Rattle.ncc_session.specs.Talk.{Stands as TalkStands}
 use Rattle.ncc_world.specs.declared.seen.ConnSeen.{ConnSeen}
@@ -8,43 +13,67 @@ use Rattle.ncc_world.specs.World.{AreServed}
 use Rattle.ncc_world.specs.Parts.{clients_in}
 use Rattle.ncc_world.proofs.Keeping.{clients_count}
 use Rattle.ncc_world.proofs.Opening.{IsNew, fresh, shown, opened_one}
+use Rattle.ncc_world.proofs.Tables.{absent, keys_more, values_more}
 use Rattle.ncc_world.proofs.clients.Clients.open.Goals as goal
 
+pub returns-clause-more : goal.returns-clause-more
+returns-clause-more c = on_ok_weaker c.push.result (λ e.
+    let k = c.requires.served in
+    let m = c.args.self.now.table in
+    let n = c.len.result + 1 in
+    let counts = clients_count k.setup _ _ k.clients k.are.each in
+    let new : get nat_eq m n ≡ None =
+    absent n 1 m.entries k.clients k.are.keyed k.are.numbered (omega (arith, c.len.ensures.len, counts.table, length-values_of m.entries)) in
+    let es = c.in_ok-insert.ensures.entries ∙ insert_entry-new nat_eq m n _ new in
+    ap (λ l. length (values_of l)) es ∙ ap length (values_more m.entries n _) ∙ length-append (values m) _) c.push.ensures.ok
+
 pub returns-clause-ok : goal.returns-clause-ok
-returns-clause-ok c = on_ok_weaker c.push-2.result (λ e r are now_is bounds.
-    let s = c.args.setup.now in
+returns-clause-ok c = on_ok_weaker c.push.result (λ e r are now_is bounds.
     let k = clients_in c.args.self.now in
-    let count = length r.members in
-    let number = c.len.result + 1 in
+    let m = c.args.self.now.table in
+    let n = c.len.result + 1 in
     let v : Served = record { conn = c.in_ok-conn.conn; since = c.args.now; placing = None; closed = false } in
     let counts = clients_count c.args.setup.now k.table k.seen r.clients are.each in
-    let numbered : c.len.result + 1 ≡ length r.clients + 1 = omega (arith, c.len.ensures, counts.table) in
-    let new : IsNew c.args.setup.now v (c.len.result + 1) c.args.now = record {
+    let numbered : n ≡ length r.clients + 1 = omega (arith, c.len.ensures.len, counts.table, length-values_of m.entries) in
+    let absent_is : get nat_eq m n ≡ None = absent n 1 m.entries r.clients are.keyed are.numbered (omega (arith, numbered)) in
+    let es = c.in_ok-insert.ensures.entries ∙ insert_entry-new nat_eq m n v absent_is in
+    let new : IsNew c.args.setup.now v n c.args.now = record {
       talk = subst (λ (x : ConnConfig). TalkStands c.in_ok-conn.conn x [] [] []) c.in_ok-config.ensures.config c.in_ok-conn.ensures.made;
       since = refl;
       placing = refl;
       closed = refl;
     } in
-    let one = opened_one c.args.setup.now (length r.members) k r.clients v (c.len.result + 1) c.args.member c.args.now c.args.printed are
+    let one = opened_one c.args.setup.now (length r.members) k r.clients v n c.args.member c.args.now c.args.printed are
     numbered bounds.0 bounds.1 new in
-    let seen : c.push-2.new.self ≡ k.seen ++ (shown (c.len.result + 1) c.args.member c.args.printed ∷ []) =
+    let seen : c.push.new.self ≡ k.seen ++ (shown n c.args.member c.args.printed ∷ []) =
     e ∙ ap (λ (out : List ℕ). k.seen ++ (record {
-      conn = c.len.result + 1;
+      conn = n;
       member = c.args.member;
       waiting = false;
       ended = false;
       printed = c.args.printed;
       out = out;
     } ∷ [])) c.new-2.ensures.empty in
-    subst (λ (x : List Served). AreServed c.args.setup.now (length r.members)
-    (record { table = x; seen = c.push-2.new.self; rooms = k.rooms })
-    (r.clients ++ (fresh (length r.clients + 1) c.args.member r.now c.args.printed ∷ []))) (sym c.in_ok-push.ensures.items)
+    let keys_are : keys_of c.insert.new.self.entries ≡ k.numbers ++ (n ∷ []) = ap keys_of es ∙ keys_more m.entries n v in
+    let values_are : values_of c.insert.new.self.entries ≡ k.table ++ (v ∷ []) = ap values_of es ∙ values_more m.entries n v in
+    subst (λ (x : List ℕ). AreServed c.args.setup.now (length r.members)
+    (record { numbers = x; table = values_of c.insert.new.self.entries; seen = c.push.new.self; rooms = k.rooms })
+    (r.clients ++ (fresh (length r.clients + 1) c.args.member r.now c.args.printed ∷ []))) (sym keys_are)
+    (subst (λ (x : List Served). AreServed c.args.setup.now (length r.members)
+    (record { numbers = k.numbers ++ (n ∷ []); table = x; seen = c.push.new.self; rooms = k.rooms })
+    (r.clients ++ (fresh (length r.clients + 1) c.args.member r.now c.args.printed ∷ []))) (sym values_are)
     (subst (λ (x : List ConnSeen). AreServed c.args.setup.now (length r.members)
-    (record { table = k.table ++ (v ∷ []); seen = x; rooms = k.rooms })
+    (record { numbers = k.numbers ++ (n ∷ []); table = k.table ++ (v ∷ []); seen = x; rooms = k.rooms })
     (r.clients ++ (fresh (length r.clients + 1) c.args.member r.now c.args.printed ∷ []))) (sym seen)
-    (subst (λ (n : ℕ). AreServed c.args.setup.now (length r.members)
-    (record { table = k.table ++ (v ∷ []); seen = k.seen ++ (shown (c.len.result + 1) c.args.member c.args.printed ∷ []); rooms = k.rooms })
-    (r.clients ++ (fresh n c.args.member r.now c.args.printed ∷ []))) numbered
-    (subst (λ (n : ℕ). AreServed c.args.setup.now (length r.members)
-    (record { table = k.table ++ (v ∷ []); seen = k.seen ++ (shown (c.len.result + 1) c.args.member c.args.printed ∷ []); rooms = k.rooms })
-    (r.clients ++ (fresh (c.len.result + 1) c.args.member n c.args.printed ∷ []))) now_is one)))) c.push-2.ensures.ok
+    (subst (λ (i : ℕ). AreServed c.args.setup.now (length r.members) (record {
+      numbers = k.numbers ++ (n ∷ []);
+      table = k.table ++ (v ∷ []);
+      seen = k.seen ++ (shown n c.args.member c.args.printed ∷ []);
+      rooms = k.rooms;
+    }) (r.clients ++ (fresh i c.args.member r.now c.args.printed ∷ []))) numbered
+    (subst (λ (i : ℕ). AreServed c.args.setup.now (length r.members) (record {
+      numbers = k.numbers ++ (n ∷ []);
+      table = k.table ++ (v ∷ []);
+      seen = k.seen ++ (shown n c.args.member c.args.printed ∷ []);
+      rooms = k.rooms;
+    }) (r.clients ++ (fresh n c.args.member i c.args.printed ∷ []))) now_is one))))) c.push.ensures.ok

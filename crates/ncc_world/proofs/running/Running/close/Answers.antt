@@ -7,27 +7,27 @@ use Rattle.ncc_world.specs.Parts.{run_in, clients_in, members_in}
 use Rattle.ncc_world.proofs.Happened.{sits_at, closed_same, closed_now}
 use Rattle.ncc_world.proofs.running.Running.close.Goals as goal
 
-pub returns-then-index : goal.returns-then-index
-returns-then-index c = record {
+pub returns-then-served : goal.returns-then-served
+returns-then-served c = record {
   ok = λ r k.
       let s = c.args.setup.now in
       let w = run_in c.args.self.now in
-      let h = sits_at s w r c.args.index c.index.result.now k c.requires.there c.index.ensures in
-      subst (λ (x : ListRun). RunsAs s w x) (closed_same r c.args.index h.client h.there (sym h.is.kept.closed ∙ c.if-index.true)) k;
+      let h = sits_at s w r c.args.index c.served.result.now k c.requires.there c.served.ensures.is in
+      subst (λ (x : ListRun). RunsAs s w x) (closed_same r c.args.index h.client h.there (sym h.is.kept.closed ∙ c.if-served.true)) k;
 }
 
 pub returns : goal.returns
 returns c = record {
   ok = λ r k.
       let s = c.args.setup.now in
-      let h = sits_at s (run_in c.args.self.now) r c.args.index c.index.result.now k c.requires.there c.index.ensures in
+      let h = sits_at s (run_in c.args.self.now) r c.args.index c.served.result.now k c.requires.there c.served.ensures.is in
       subst (λ (x : ListRun). RunsAs s (record {
         now = c.args.self.now.clock;
         members = members_in c.args.self.now.members;
         clients = clients_in c.change.new.self;
         told = c.args.self.now.told;
       }) x)
-      (closed_now r c.args.index h.client h.there (sym h.is.kept.closed ∙ c.if-index.false)) (record {
+      (closed_now r c.args.index h.client h.there (sym h.is.kept.closed ∙ c.if-served.false)) (record {
         now = k.now;
         history = k.history;
         members = k.members;

@@ -8,27 +8,27 @@ use Rattle.ncc_clients.specs.Run.{with_bytes}
 use Rattle.ncc_world.proofs.Happened.{sits_at, fed_none, fed_now}
 use Rattle.ncc_world.proofs.running.Running.feed.Goals as goal
 
-pub returns-then-index : goal.returns-then-index
-returns-then-index c = record {
+pub returns-then-served : goal.returns-then-served
+returns-then-served c = record {
   ok = λ r k.
       let s = c.args.setup.now in
       let w = run_in c.args.self.now in
-      let h = sits_at s w r c.args.index c.index.result.now k c.requires.there c.index.ensures in
-      subst (λ (x : ListRun). RunsAs s w x) (fed_none s r c.args.index c.args.piece h.client h.there (sym h.is.kept.closed ∙ c.if-index.true)) k;
+      let h = sits_at s w r c.args.index c.served.result.now k c.requires.there c.served.ensures.is in
+      subst (λ (x : ListRun). RunsAs s w x) (fed_none s r c.args.index c.args.piece h.client h.there (sym h.is.kept.closed ∙ c.if-served.true)) k;
 }
 
 pub returns : goal.returns
 returns c = record {
   ok = λ r k.
       let s = c.args.setup.now in
-      let h = sits_at s (run_in c.args.self.now) r c.args.index c.index.result.now k c.requires.there c.index.ensures in
+      let h = sits_at s (run_in c.args.self.now) r c.args.index c.served.result.now k c.requires.there c.served.ensures.is in
       subst (λ (x : ListRun). RunsAs s (record {
         now = c.args.self.now.clock;
         members = members_in c.args.self.now.members;
         clients = clients_in c.change.new.self;
         told = c.args.self.now.told;
       }) x)
-      (fed_now s r c.args.index c.args.piece h.client h.there (sym h.is.kept.closed ∙ c.if-index.false)) (record {
+      (fed_now s r c.args.index c.args.piece h.client h.there (sym h.is.kept.closed ∙ c.if-served.false)) (record {
         now = k.now;
         history = k.history;
         members = k.members;

@@ -20,9 +20,9 @@ pub returns-in-Enter : goal.returns-in-Enter
 returns-in-Enter c = record {
   ok = λ r d k there.
       let s = c.args.setup.now in
-      let v = c.index.result.now in
+      let v = c.served.result.now in
       let seen = c.shown.result.now in
-      let client = client_is s (run_in c.args.self.now) r c.args.index v seen d k there c.index.ensures c.shown.ensures.shown in
+      let client = client_is s (run_in c.args.self.now) r c.args.index v seen d k there c.served.ensures.is c.shown.ensures.shown in
       let asked = sym (asked_is s v seen d client.kept) ∙ c.in-Some.ensures.some ∙ ap (λ (q : Ask). Some (asks_of q)) c.in-Enter.is in
       absurd (no_enter s r d c.in-Enter.need (reply_some s r d _ asked ∙ c.requires.asks r d k there));
 }
@@ -31,9 +31,9 @@ pub returns-in-Run : goal.returns-in-Run
 returns-in-Run c = record {
   ok = λ r d k there.
       let s = c.args.setup.now in
-      let v = c.index.result.now in
+      let v = c.served.result.now in
       let seen = c.shown.result.now in
-      let client = client_is s (run_in c.args.self.now) r c.args.index v seen d k there c.index.ensures c.shown.ensures.shown in
+      let client = client_is s (run_in c.args.self.now) r c.args.index v seen d k there c.served.ensures.is c.shown.ensures.shown in
       let asked = sym (asked_is s v seen d client.kept) ∙ c.in-Some.ensures.some ∙ ap (λ (q : Ask). Some (asks_of q)) c.in-Run.is in
       absurd (no_run s r d (map call_of c.in-Run.steps) (reply_some s r d _ asked ∙ c.requires.asks r d k there));
 }
@@ -42,9 +42,9 @@ pub returns-in-Route : goal.returns-in-Route
 returns-in-Route c = record {
   ok = λ r d k there.
       let s = c.args.setup.now in
-      let v = c.index.result.now in
+      let v = c.served.result.now in
       let seen = c.shown.result.now in
-      let client = client_is s (run_in c.args.self.now) r c.args.index v seen d k there c.index.ensures c.shown.ensures.shown in
+      let client = client_is s (run_in c.args.self.now) r c.args.index v seen d k there c.served.ensures.is c.shown.ensures.shown in
       let asked = sym (asked_is s v seen d client.kept) ∙ c.in-Some.ensures.some ∙ ap (λ (q : Ask). Some (asks_of q)) c.in-Route.is in
       absurd (no_route s r d (reply_some s r d _ asked ∙ c.requires.asks r d k there));
 }
@@ -53,9 +53,9 @@ pub returns-in_default : goal.returns-in_default
 returns-in_default c = record {
   ok = λ r d k there.
       let s = c.args.setup.now in
-      let v = c.index.result.now in
+      let v = c.served.result.now in
       let seen = c.shown.result.now in
-      let client = client_is s (run_in c.args.self.now) r c.args.index v seen d k there c.index.ensures c.shown.ensures.shown in
+      let client = client_is s (run_in c.args.self.now) r c.args.index v seen d k there c.served.ensures.is c.shown.ensures.shown in
       let asked = sym (asked_is s v seen d client.kept) ∙ c.in_default.ensures.none in
       absurd (no_wait (reply_none s r d asked ∙ c.requires.asks r d k there));
 }
@@ -64,9 +64,9 @@ pub returns-in_ok-proposal-in-Leave : goal.returns-in_ok-proposal-in-Leave
 returns-in_ok-proposal-in-Leave c = record {
   ok = λ r d k there.
       let s = c.args.setup.now in
-      let v = c.index.result.now in
+      let v = c.served.result.now in
       let seen = c.shown.result.now in
-      let client = client_is s (run_in c.args.self.now) r c.args.index v seen d k there c.index.ensures c.shown.ensures.shown in
+      let client = client_is s (run_in c.args.self.now) r c.args.index v seen d k there c.served.ensures.is c.shown.ensures.shown in
       record {
         entry = c.in-Leave.entry;
         entry_is = sym (asked_is s v seen d client.kept) ∙ c.in-Some.ensures.some ∙ ap (λ (q : Ask). Some (asks_of q)) c.in-Leave.is;

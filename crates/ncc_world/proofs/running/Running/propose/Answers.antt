@@ -1,5 +1,6 @@
 use Rattle.std.proofs.Common.{◌≡◌, ◌∙◌, ap, sym, refl, Some, get_or, subst, length, arith, List, ◌<◌, ◌++◌}
 use Rattle.std.specs.Prelude.{slice_get, slice_set}
+use Rattle.indexmap.specs.IndexMap.{values}
 use Rattle.ncc_tx.specs.declared.entry.Item.{Item}
 use Rattle.ncc_clients.specs.Members.{Proposed}
 use Rattle.ncc_clients.specs.Run.{proposed, told_to, with_placing}
@@ -36,7 +37,7 @@ tell-requires-clause-there c =
     let n = counted s (run_in c.args.self.now) r k in
     let d = get_there r.clients c.args.index (omega (arith, n.table, c.requires.there)) in
     let o = c.in_ok-offer.ensures.ok r d.0 k d.1 in
-    subst (λ (x : Clients). c.args.index < length x.table.items) (sym o.clients) c.requires.there
+    subst (λ (x : Clients). c.args.index < length (values x.table)) (sym o.clients) c.requires.there
 
 pub tell-requires-clause-fits : goal.tell-requires-clause-fits
 tell-requires-clause-fits c = λ v e.
@@ -47,7 +48,7 @@ tell-requires-clause-fits c = λ v e.
     let d = get_there r.clients c.args.index (omega (arith, n.table, c.requires.there)) in
     let o = c.in_ok-offer.ensures.ok r d.0 k d.1 in
     let h = sits s (run_in c.args.self.now) r c.args.index v k c.requires.there
-    (subst (λ (x : Clients). slice_get x.table.items c.args.index ≡ Some v) o.clients e) in
+    (subst (λ (x : Clients). slice_get (values x.table) c.args.index ≡ Some v) o.clients e) in
     let i = c.in_ok-offer.ensures.ok r h.client k h.there in
     elsewhere_fits s r v h.seen h.client i.entry h.is i.entry_is (c.requires.asks r h.client k h.there)
 
@@ -73,7 +74,7 @@ tell-requires-in-Full-clause-there c =
     let n = counted s (run_in c.args.self.now) r k in
     let d = get_there r.clients c.args.index (omega (arith, n.table, c.requires.there)) in
     let o = c.in_ok-offer.ensures.ok r d.0 k d.1 in
-    subst (λ (x : Clients). c.args.index < length x.table.items) (sym o.clients) c.requires.there
+    subst (λ (x : Clients). c.args.index < length (values x.table)) (sym o.clients) c.requires.there
 
 pub tell-requires-in-Full-clause-fits : goal.tell-requires-in-Full-clause-fits
 tell-requires-in-Full-clause-fits c = λ v e.
@@ -84,7 +85,7 @@ tell-requires-in-Full-clause-fits c = λ v e.
     let d = get_there r.clients c.args.index (omega (arith, n.table, c.requires.there)) in
     let o = c.in_ok-offer.ensures.ok r d.0 k d.1 in
     let h = sits s (run_in c.args.self.now) r c.args.index v k c.requires.there
-    (subst (λ (x : Clients). slice_get x.table.items c.args.index ≡ Some v) o.clients e) in
+    (subst (λ (x : Clients). slice_get (values x.table) c.args.index ≡ Some v) o.clients e) in
     let i = c.in_ok-offer.ensures.ok r h.client k h.there in
     full_fits s r v h.seen h.client i.entry c.in-Full.entries h.is i.entry_is (c.requires.asks r h.client k h.there)
 
@@ -124,7 +125,7 @@ change-requires-clause-there c =
     let n = counted s (run_in c.args.self.now) r k in
     let d = get_there r.clients c.args.index (omega (arith, n.table, c.requires.there)) in
     let o = c.in_ok-offer.ensures.ok r d.0 k d.1 in
-    subst (λ (x : Clients). c.args.index < length x.table.items) (sym o.clients) c.requires.there
+    subst (λ (x : Clients). c.args.index < length (values x.table)) (sym o.clients) c.requires.there
 
 pub change-requires-clause-served : goal.change-requires-clause-served
 change-requires-clause-served c =

@@ -16,26 +16,26 @@ pub answered-requires : goal.answered-requires
 answered-requires c =
     let k = c.requires.live.runs_as in
     let r = c.requires.live.run in
-    let h = here c.args.setup.now (run_in c.args.self.now) r c.args.index c.index-served.result.now c.shown.result.now k c.requires.there
-    c.index-served.ensures c.shown.ensures.shown in
+    let h = here c.args.setup.now (run_in c.args.self.now) r c.args.index c.served-served.result.now c.shown.result.now k c.requires.there
+    c.served-served.ensures.is c.shown.ensures.shown in
     let n = shelf_count _ _ r.members k.members.shelves in
     record { there = (omega (arith, h.placed.low, h.is.kept.member), omega (arith, h.placed.high, h.is.kept.member, n)) }
 
 pub returns-in-None : goal.returns-in-None
 returns-in-None c = record {
   exact = λ r d k there.
-      let client = client_is c.args.setup.now (run_in c.args.self.now) r c.args.index c.index-served.result.now c.shown.result.now d k there
-      c.index-served.ensures c.shown.ensures.shown in
-      reply_none c.args.setup.now r d (sym (asked_is c.args.setup.now c.index-served.result.now c.shown.result.now d client.kept) ∙ c.in-None.ensures.none);
+      let client = client_is c.args.setup.now (run_in c.args.self.now) r c.args.index c.served-served.result.now c.shown.result.now d k there
+      c.served-served.ensures.is c.shown.ensures.shown in
+      reply_none c.args.setup.now r d (sym (asked_is c.args.setup.now c.served-served.result.now c.shown.result.now d client.kept) ∙ c.in-None.ensures.none);
 }
 
 pub returns-in-Some : goal.returns-in-Some
 returns-in-Some c = record {
   exact = IfOk-weaker c.answered.result _ _ (λ a f r d k there.
-      let client = client_is c.args.setup.now (run_in c.args.self.now) r c.args.index c.index-served.result.now c.shown.result.now d k there
-      c.index-served.ensures c.shown.ensures.shown in
-      f r d k.members (asked_so c.args.setup.now c.args.self.now.clock c.args.setup.now.wait r c.index-served.result.now c.shown.result.now d _
+      let client = client_is c.args.setup.now (run_in c.args.self.now) r c.args.index c.served-served.result.now c.shown.result.now d k there
+      c.served-served.ensures.is c.shown.ensures.shown in
+      f r d k.members (asked_so c.args.setup.now c.args.self.now.clock c.args.setup.now.wait r c.served-served.result.now c.shown.result.now d _
       client k.now refl c.saturating_add.ensures)
       ∙ reply_some c.args.setup.now r d (asks_of c.in-Some.ask.now)
-      (sym (asked_is c.args.setup.now c.index-served.result.now c.shown.result.now d client.kept) ∙ c.in-Some.ensures.some)) c.answered.ensures.exact;
+      (sym (asked_is c.args.setup.now c.served-served.result.now c.shown.result.now d client.kept) ∙ c.in-Some.ensures.some)) c.answered.ensures.exact;
 }
