@@ -23,3 +23,4 @@ pub mod Proposing
 pub mod Happened
 pub mod Fresh
 pub mod Tables
+pub mod Lowering

@@ -1,6 +1,7 @@
 -- What the parts of a world do. No public clause speaks of it.
-use Rattle.std.specs.Prelude.{◌≡◌, ℕ, ◌+◌, ◌<◌, Bool, true, false, if◌then◌else◌, ◌||◌, min, nat_lt, List, [], ◌∷◌, ◌++◌, length}
-use Rattle.std.specs.Prelude.{Option, Some, None, slice_get, slice_set, IsTrue}
+use Rattle.std.specs.Prelude.{◌≡◌, ℕ, ◌+◌, ◌*◌, ◌<◌, Bool, true, false, if◌then◌else◌, ◌||◌, min, nat_lt, List, [], ◌∷◌, ◌++◌, length}
+use Rattle.std.specs.Prelude.{Option, Some, None, slice_get, slice_set, IsTrue, is_some}
+use Rattle.std.specs.List.{sum_by}
 use Rattle.indexmap.specs.IndexMap.{keys, values}
 use Rattle.ncc_wait.specs.declared.outcomes.Outcome.{Outcome}
 use Rattle.ncc_wait.specs.declared.parked.Parked.{Parked}
@@ -8,7 +9,7 @@ use Rattle.ncc_wait.specs.Room.{put, without}
 use Rattle.ncc_tx.specs.declared.entry.Entry.{Entry}
 use Rattle.ncc_session.specs.declared.ask.Fact.{Fact}
 use Rattle.ncc_session.specs.Question.{Question}
-use Rattle.ncc_session.specs.Talk.{Talk, asked, fits_at}
+use Rattle.ncc_session.specs.Talk.{Talk, asked, fits_at, measure}
 use Rattle.ncc_clients.specs.Members.{Proposed, elsewhere, full, placed}
 use Rattle.ncc_clients.specs.Run.{Run, Client, Placing, Reply, waits, tells, proposes, with_bytes, with_fact, with_placing, deadline_of, question_of}
 use Rattle.ncc_clients.specs.Four.{Begins}
@@ -77,6 +78,20 @@ abbrev pub MayChange : Change → Talk → Type 0
 MayChange (change.Told fact) talk = IsTrue (fits_at (asked talk) fact)
 MayChange (change.Placed p) talk = 0 < p.place
 MayChange _ talk = Unit {0}
+
+-- How much is left to do: twice the facts that a session takes at most before more bytes have to come, and one where no entry is proposed.
+-- So each fact lowers it, and each proposal.
+abbrev pub left_at : Served → ℕ
+left_at v = 2 * measure v.conn + (if is_some v.placing then 0 else 1)
+
+abbrev pub left_in : Clients → ℕ
+left_in k = sum_by left_at (values k.table)
+
+-- what a change does to that, where the connection's entry was proposed so
+abbrev pub Lowers : Change → Option Place → ℕ → ℕ → Type 0
+Lowers (change.Told fact) placing old new = new < old
+Lowers (change.Placed p) placing old new = placing ≡ None → new < old
+Lowers _ placing old new = Unit {0}
 
 -- who waits where this connection, by its number, now waits so
 abbrev pub parked_anew : ℕ → Option Parked → List Parked → List Parked

@@ -7,7 +7,7 @@ ghost use Rattle.ncc_clients.specs.Run.{Client, opened};
 ghost use Rattle.ncc_world.specs.Setting.{IsSetup};
 ghost use Rattle.ncc_world.specs.Happening.{ListRun};
 ghost use Rattle.ncc_world.specs.World.{AreServed, IsClient, asked_by, need_for, parked_by, place_for, placing_of};
-ghost use Rattle.ncc_world.specs.Parts.{HasClients, MayChange, changed, clients_in, parked_anew};
+ghost use Rattle.ncc_world.specs.Parts.{HasClients, Lowers, MayChange, changed, clients_in, left_at, left_in, parked_anew};
 ghost use Rattle.ncc_world.specs.declared.setup.Setup.{Setup as Setups};
 ghost use Rattle.ncc_world.specs.declared.served.Served.{Served as Serveds};
 
@@ -124,6 +124,8 @@ impl Clients {
         ensures ok { OnOk result ((s : Setups) (count : ℕ) (clients : List Client) (c : Client) → AreServed s count (clients_in self.old) clients →
             slice_get clients index ≡ Some c → s.wait ≡ wait →
             AreServed s count (clients_in self.new) (slice_set clients index (changed s now c what))) }
+        ensures lowers { OnOk result ((v : Serveds) → slice_get (values self.old.table) index ≡ Some v →
+            Lowers what v.placing (left_in self.old) (left_in self.new)) }
     {
         let mut list = taken(&mut self.seen);
         let changed = change_one(&mut self.table[index], &mut list[index], what, now);
@@ -182,6 +184,7 @@ fn change_one(
     requires may { MayChange what served.old.conn }
     ensures ok { OnOk result ((s : Setups) (c : Client) → IsClient s served.old seen.old c →
         IsClient s served.new seen.new (changed s now c what)) }
+    ensures lowers { OnOk result (Lowers what served.old.placing (left_at served.old) (left_at served.new)) }
     ensures conn { seen.new.conn ≡ seen.old.conn }
     ensures member { seen.new.member ≡ seen.old.member }
 {

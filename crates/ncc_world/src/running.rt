@@ -9,7 +9,7 @@ ghost use Rattle.ncc_world.specs.Setting.{IsSetup, cluster_of, lagging};
 ghost use Rattle.ncc_world.specs.Events.{MayHappen};
 ghost use Rattle.ncc_world.specs.Happening.{ListRun, Happens, start_of, own, refusal, unless, asks, feeds, closes_one, is_member, is_open_made};
 ghost use Rattle.ncc_world.specs.World.{RunsAs};
-ghost use Rattle.ncc_world.specs.Parts.{HasRun, TurnBy, Offered, DoesTo, first_acting, lower, number_of, reply_in, run_in};
+ghost use Rattle.ncc_world.specs.Parts.{HasRun, TurnBy, Offered, DoesTo, first_acting, left_in, lower, number_of, reply_in, run_in};
 ghost use Rattle.ncc_world.specs.declared.served.Served.{Served as Serveds};
 
 use crate::answer::{Reply, answered};
@@ -26,7 +26,7 @@ use ncc_clients::Told;
 use ncc_pack::{Bytes, Memory, Sequence};
 use ncc_session::{Ask, Fact};
 use ncc_wait::Outcome;
-use std::alloc::{AllocError, Global};
+use std::alloc::Global;
 
 /// What a world keeps of its run.
 #[derive(Drop)]
@@ -107,6 +107,7 @@ impl Running {
         requires fits { (v : Serveds) → slice_get (values self.old.clients.table) index ≡ Some v → IsTrue (fits_at (asked v.conn) fact) }
         ensures ok { OnOk result ((r : ListRun) (c : Client) → RunsAs setup.now (run_in self.old) r → slice_get r.clients index ≡ Some c →
             RunsAs setup.now (run_in self.new) (told_to line r index c fact)) }
+        ensures lowers { OnOk result (left_in self.new.clients < left_in self.old.clients) }
     {
         let conn = self.clients.shown(index).conn;
         let told = Told {
@@ -151,6 +152,7 @@ impl Running {
             reply (cluster_of setup.now) r c ≡ proposes }
         ensures ok { OnOk result ((r : ListRun) (c : Client) → RunsAs setup.now (run_in self.old) r → slice_get r.clients index ≡ Some c →
             DoesTo setup.now line r index c proposes (run_in self.new)) }
+        ensures lowers { OnOk result (left_in self.new.clients < left_in self.old.clients) }
     {
         match self.offer(setup, index)? {
             Proposal::Elsewhere => self.tell(setup, line, index, Fact::Elsewhere)?,
@@ -176,6 +178,8 @@ impl Running {
         requires there { index < length (values self.old.clients.table) }
         ensures ok { OnOk result ((r : ListRun) (c : Client) → RunsAs setup.now (run_in self.old) r → slice_get r.clients index ≡ Some c →
             acts (cluster_of setup.now) r c ≡ true → DoesTo setup.now line r index c (reply (cluster_of setup.now) r c) (run_in self.new)) }
+        ensures lowers { OnOk result ((r : ListRun) (c : Client) → RunsAs setup.now (run_in self.old) r → slice_get r.clients index ≡ Some c →
+            acts (cluster_of setup.now) r c ≡ true → left_in self.new.clients < left_in self.old.clients) }
     {
         match self.reply_at(alloc, setup, index)? {
             Reply::Waits => Ok(()),
@@ -188,6 +192,7 @@ impl Running {
     fn turn(&mut self, alloc: Global, setup: &Setup, line: u64) -> Result<bool, Memory>
         requires live { HasRun setup.now self.old }
         ensures ok { IfOk result (λ more. (r : ListRun) → RunsAs setup.now (run_in self.old) r → TurnBy setup.now line r (run_in self.new) more) }
+        ensures lowers { IfOk result (λ more. IsTrue more → left_in self.new.clients < left_in self.old.clients) }
     {
         let Some(number) = self.first(setup) else {
             return Ok(false);
@@ -196,18 +201,14 @@ impl Running {
         Ok(true)
     }
 
-    // Turn after turn, until nobody can be answered.
+    // Turn after turn, until nobody can be answered. Each lowers what is left to do.
     fn settle(&mut self, alloc: Global, setup: &Setup, line: u64) -> Result<(), Memory>
         requires live { HasRun setup.now self.old }
         ensures ok { OnOk result ((r : ListRun) → RunsAs setup.now (run_in self.old) r →
             (t : ListRun) × Settles (cluster_of setup.now) line r t × RunsAs setup.now (run_in self.new) t) }
     {
-        'turns: for _ in 0..u64::MAX {
-            if !self.turn(alloc, setup, line)? {
-                return Ok(());
-            }
-        }
-        Err(AllocError)
+        'turns: while self.turn(alloc, setup, line)? {}
+        Ok(())
     }
 }
 

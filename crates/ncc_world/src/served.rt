@@ -8,7 +8,7 @@ ghost use Rattle.ncc_clients.specs.Run.{Client, since_fed};
 ghost use Rattle.ncc_world.specs.declared.setup.Setup.{Setup};
 ghost use Rattle.ncc_world.specs.declared.seen.ConnSeen.{ConnSeen};
 ghost use Rattle.ncc_world.specs.World.{IsKept, IsClient, asked_by};
-ghost use Rattle.ncc_world.specs.Parts.{MayChange, changed};
+ghost use Rattle.ncc_world.specs.Parts.{Lowers, MayChange, changed, left_at};
 
 use crate::seen::ConnSeen;
 use ncc_pack::{Bytes, Memory};
@@ -81,6 +81,7 @@ pub(crate) fn alter(served: &mut Served, change: Change, now: u64) -> Result<(),
     requires may { MayChange change served.old.conn }
     ensures ok { OnOk result ((s : Setup) (seen : ConnSeen) (c : Client) → IsKept s served.old seen c →
         IsKept s served.new seen (changed s now c change)) }
+    ensures lowers { OnOk result (Lowers change served.old.placing (left_at served.old) (left_at served.new)) }
 {
     match change {
         Change::Fed(piece) => {
@@ -120,6 +121,7 @@ fn let_go(conn: &mut Conn, ended: bool)
 // Shows what a connection wrote last, and where it stands.
 pub(crate) fn show(served: &mut Served, seen: &mut ConnSeen) -> Result<(), Memory>
     ensures ok { OnOk result ((s : Setup) (c : Client) → IsKept s served.old seen.old c → IsClient s served.new seen.new c) }
+    ensures left { left_at served.new ≡ left_at served.old }
     ensures conn { seen.new.conn ≡ seen.old.conn }
     ensures member { seen.new.member ≡ seen.old.member }
 {

@@ -1,5 +1,6 @@
 use Rattle.std.proofs.Common.{ℕ, ◌≡◌, ◌<◌, ◌≤◌, ◌+◌, ◌-◌, ◌^◌, min, ◌∙◌, ap, sym, length, arith, subst, List, get_or, Some}
 use Rattle.std.specs.Prelude.{slice_get, slice_set}
+use Rattle.std.specs.List.{sum_by}
 use Rattle.ncc_world.specs.declared.seen.ConnSeen.{ConnSeen}
 use Rattle.ncc_world.specs.declared.served.Served.{Served}
 use Rattle.std.proofs.lemmas.Map.Entries.{length-values_of}
@@ -8,8 +9,9 @@ use Rattle.indexmap.specs.IndexMap.{keys, values, set_value_at, with_value_at}
 use Rattle.indexmap.proofs.CallerLemmas.{keys-with_value_at, index_map_len-with_value_at}
 use Rattle.std.proofs.lemmas.List.{get_or-set_same}
 use Rattle.ncc_world.specs.World.{AreServed, IsClient, asked_by, parked_by, placing_of}
-use Rattle.ncc_world.specs.Parts.{changed, parked_anew}
+use Rattle.ncc_world.specs.Parts.{Lowers, changed, left_at, parked_anew}
 use Rattle.ncc_world.proofs.Keeping.{Here, clients_count, client_at, there_at, here_at, changed_same, changed_all}
+use Rattle.ncc_world.proofs.Lowering.{lowers_all}
 use Rattle.ncc_world.proofs.Tables.{at_index, values_set}
 use Rattle.ncc_world.proofs.clients.Clients.change.Goals as goal
 
@@ -139,4 +141,14 @@ returns c = record {
         seen = slice_set seen index shown;
         rooms = slice_set rooms (shown.member - 1) c.park.new.room;
       }) (slice_set clients index (changed s c.args.now d c.args.what))) (sym (keys-with_value_at m index w)) all)));
+  lowers = λ v there.
+      let index = c.args.index in
+      let old = c.index_mut.result.now in
+      let w = c.change_one-changed.new.served in
+      let m = c.args.self.now.table in
+      let both : Some old ≡ Some v = sym c.index_mut.ensures.value ∙ there in
+      let same : old ≡ v = cc in
+      subst (λ (x : Served). Lowers c.args.what x.placing (sum_by left_at (values m)) (sum_by left_at (values (with_value_at m index w)))) same
+      (subst (λ (l : List Served). Lowers c.args.what old.placing (sum_by left_at (values m)) (sum_by left_at l)) (values_set m.entries index w)
+      (lowers_all c.args.what (values m) index old w c.index_mut.ensures.value c.in_ok-changed.ensures.lowers));
 }

@@ -8,11 +8,12 @@ use Rattle.ncc_world.specs.declared.clients.Clients.{Clients}
 use Rattle.ncc_world.specs.declared.served.Served.{Served}
 use Rattle.ncc_world.specs.Setting.{Lists, cluster_of}
 use Rattle.ncc_world.specs.World.{RunsAs, AreServed}
-use Rattle.ncc_world.specs.Parts.{run_in, members_in, clients_in}
+use Rattle.ncc_world.specs.Parts.{left_in, run_in, members_in, clients_in}
 use Rattle.ncc_world.proofs.Listing.{longest_is}
 use Rattle.ncc_world.proofs.Keeping.{get_there}
 use Rattle.ncc_world.proofs.Turning.{counted}
 use Rattle.ncc_world.proofs.Proposing.{sits, was_elsewhere, was_full, was_placed, kept_by, accepted_as, elsewhere_fits, full_fits}
+use Rattle.ncc_world.proofs.Lowering.{unplaced}
 use Rattle.ncc_world.proofs.running.Running.propose.Goals as goal
 
 pub tell-requires-clause-live : goal.tell-requires-clause-live
@@ -101,6 +102,13 @@ returns-in_ok-tell-in-Elsewhere c = record {
         subst (λ (x : Proposed Lists). RunsAs s (run_in c.tell.new.self) (proposed (cluster_of s) c.args.line r c.args.index d x)) (sym q.becomes)
             (c.in_ok-tell-in-Elsewhere.ensures.ok r d mid there),
       );
+  lowers =
+      let r = c.requires.live.run in
+      let k = c.requires.live.runs_as in
+      let n = counted c.args.setup.now (run_in c.args.self.now) r k in
+      let d = get_there r.clients c.args.index (omega (arith, n.table, c.requires.there)) in
+      let o = c.in_ok-offer.ensures.ok r d.0 k d.1 in
+      subst (λ (x : Clients). left_in c.tell.new.self.clients < left_in x) o.clients c.in_ok-tell-in-Elsewhere.ensures.lowers;
 }
 
 pub returns-in_ok-tell-in-Full : goal.returns-in_ok-tell-in-Full
@@ -115,6 +123,13 @@ returns-in_ok-tell-in-Full c = record {
         subst (λ (x : Proposed Lists). RunsAs s (run_in c.tell-in-Full.new.self) (proposed (cluster_of s) c.args.line r c.args.index d x)) (sym q.becomes)
             (c.in_ok-tell-in-Full.ensures.ok r d mid there),
       );
+  lowers =
+      let r = c.requires.live.run in
+      let k = c.requires.live.runs_as in
+      let n = counted c.args.setup.now (run_in c.args.self.now) r k in
+      let d = get_there r.clients c.args.index (omega (arith, n.table, c.requires.there)) in
+      let o = c.in_ok-offer.ensures.ok r d.0 k d.1 in
+      subst (λ (x : Clients). left_in c.tell-in-Full.new.self.clients < left_in x) o.clients c.in_ok-tell-in-Full.ensures.lowers;
 }
 
 pub change-requires-clause-there : goal.change-requires-clause-there
@@ -179,4 +194,14 @@ returns-in_ok-change-in-Placed c = record {
           told = c.offer.new.self.told;
         }) (proposed (cluster_of s) c.args.line r i d x)) (sym q.becomes) all,
       );
+  lowers =
+      let s = c.args.setup.now in
+      let r = c.requires.live.run in
+      let k = c.requires.live.runs_as in
+      let v = get_there (values c.args.self.now.clients.table) c.args.index c.requires.there in
+      let h = sits s (run_in c.args.self.now) r c.args.index v.0 k c.requires.there v.1 in
+      let o = c.in_ok-offer.ensures.ok r h.client k h.there in
+      let none = unplaced s r v.0 h.seen h.client o.entry h.is o.entry_is (c.requires.asks r h.client k h.there) in
+      let there = subst (λ (x : Clients). slice_get (values x.table) c.args.index ≡ Some v.0) (sym o.clients) v.1 in
+      subst (λ (x : Clients). left_in c.change.new.self < left_in x) o.clients (c.in_ok-change-in-Placed.ensures.lowers v.0 there none);
 }

@@ -22,6 +22,15 @@ turn-requires c =
 pub turns-preserved : goal.turns-preserved
 turns-preserved c = λ r k.
     let t = c.turns.invariant r k in
-    let u = subst (λ (b : Bool). TurnBy c.args.setup.now c.args.line t.0 (run_in c.turn.new.self) b) c.if-not-branch.false
+    let u = subst (λ (b : Bool). TurnBy c.args.setup.now c.args.line t.0 (run_in c.turn.new.self) b) c.if-branch.true
     (c.in_ok-turn.ensures.ok t.0 t.2) in
     (u.0, turns_on c.args.setup.now c.args.line r t.0 u.0 t.1 u.1, u.2)
+
+pub returns : goal.returns
+returns c = record {
+  ok = λ r k.
+      let t = c.turns.invariant r k in
+      let u = subst (λ (b : Bool). TurnBy c.args.setup.now c.args.line t.0 (run_in c.turn.new.self) b) c.if-branch.false
+      (c.in_ok-turn.ensures.ok t.0 t.2) in
+      (t.0, record { turns = t.1; rests = u.0 }, u.1);
+}

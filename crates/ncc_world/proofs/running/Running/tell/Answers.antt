@@ -2,6 +2,7 @@ use Rattle.std.proofs.Common.{◌≡◌, ◌<◌, ◌≤◌, ◌+◌, ◌∙◌,
 use Rattle.std.proofs.Common.{subst}
 use Rattle.std.specs.Prelude.{slice_set}
 use Rattle.std.proofs.lemmas.Result.{on_ok_weaker}
+use Rattle.indexmap.specs.IndexMap.{values}
 use Rattle.ncc_session.specs.declared.ask.Fact.{Fact}
 use Rattle.ncc_clients.specs.declared.told.Told.{Told}
 use Rattle.ncc_clients.specs.Run.{with_fact}
@@ -34,4 +35,6 @@ returns c = record {
             ∙ ap (λ n. c.args.self.now.told ++ (record { line = c.args.line; conn = n; fact = c.args.fact } ∷ [])) number
             ∙ ap (λ (l : List Told). l ++ (record { line = c.args.line; conn = d.number; fact = c.args.fact } ∷ [])) k.told;
       }) c.change.ensures.ok;
+  lowers = on_ok_weaker c.change.result (λ f.
+      let v = get_there (values c.args.self.now.clients.table) c.args.index c.requires.there in f v.0 v.1) c.change.ensures.lowers;
 }

@@ -9,10 +9,8 @@ use Rattle.ncc_world.proofs.Turning.{counted}
 use Rattle.ncc_world.proofs.Firsts.{Found, found_first, found_none}
 use Rattle.ncc_world.proofs.running.Running.turn.Goals as goal
 
-pub returns-in_default : goal.returns-in_default
-returns-in_default c = record {
-  ok = λ r k. (found_none (acts (cluster_of c.args.setup.now) r) r.clients (sym (c.in_default.ensures.first r k)), k);
-}
+pub returns-in_default-clause-ok : goal.returns-in_default-clause-ok
+returns-in_default-clause-ok c = λ r k. (found_none (acts (cluster_of c.args.setup.now) r) r.clients (sym (c.in_default.ensures.first r k)), k)
 
 pub overflow_sub-number : goal.overflow_sub-number
 overflow_sub-number c =
@@ -47,4 +45,10 @@ returns c = record {
         },
         d.2,
       );
+  lowers = λ more.
+      let k = c.requires.live.runs_as in
+      let r = c.requires.live.run in
+      let f = found_first (acts (cluster_of c.args.setup.now) r) 1 r.clients c.in-Some.number k.clients.numbered (sym (c.in-Some.ensures.first r k)) in
+      let same : f.index ≡ c.in-Some.number - 1 = omega (arith, f.number) in
+      c.in_ok-answer.ensures.lowers r f.client k (ap (λ i. slice_get r.clients i) (sym same) ∙ f.there) f.passes;
 }
