@@ -24,3 +24,4 @@ pub mod Happened
 pub mod Fresh
 pub mod Tables
 pub mod Lowering
+pub mod Living

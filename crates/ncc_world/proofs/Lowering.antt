@@ -64,7 +64,8 @@ none_by list now deadline false placing e = absurd (cc)
 none_by list now deadline true None e = refl
 none_by list now deadline true (Some p) e = absurd (not_landed list now p (outcome_of (length list) p.place now deadline) e)
 
-none_for : (s : Setup) (r : ListRun) (c : Client) (entry : Entry) → answers (cluster_of s) r c (leave_of entry) ≡ proposes → c.placing ≡ None
+none_for : (s : Setup) (r : ListRun) (c : Client) (entry : Entry) → answers (cluster_of s) r c (leave_of entry) ≡ proposes
+    → c.placing ≡ None
 none_for s r c e.Noop h = absurd (cc)
 none_for s r c (e.Tx steps told) h =
     none_by (get_or r.members (c.member - 1) []) r.now (deadline_of (cluster_of s) c) (some_writes (map call_of steps)) c.placing h

@@ -1,8 +1,9 @@
 -- What the parts of a world do. No public clause speaks of it.
-use Rattle.std.specs.Prelude.{◌≡◌, ℕ, ◌+◌, ◌*◌, ◌<◌, Bool, true, false, if◌then◌else◌, ◌||◌, min, nat_lt, List, [], ◌∷◌, ◌++◌, length}
+use Rattle.std.specs.Prelude.{◌≡◌, ℕ, ◌+◌, ◌*◌, ◌<◌, Bool, true, false, if◌then◌else◌, ◌==◌, ◌||◌, not, min, nat_lt, List, [], ◌∷◌, ◌++◌, length, map}
 use Rattle.std.specs.Prelude.{Option, Some, None, slice_get, slice_set, IsTrue, is_some}
 use Rattle.std.specs.List.{sum_by}
 use Rattle.indexmap.specs.IndexMap.{keys, values}
+use Rattle.indexmap.specs.IndexSet.{IndexSet, keys as set_keys}
 use Rattle.ncc_wait.specs.declared.outcomes.Outcome.{Outcome}
 use Rattle.ncc_wait.specs.declared.parked.Parked.{Parked}
 use Rattle.ncc_wait.specs.Room.{put, without}
@@ -34,8 +35,17 @@ use Rattle.ncc_world.specs.World.{KeptMembers, KeptClients, KeptRun, AreMembers,
 abbrev pub members_in : Members → KeptMembers
 members_in m = record { items = m.items; shelves = m.shelves.items; seen = m.seen }
 
+abbrev pub numbers_in : {S : Type 0} → List (IndexSet ℕ S) → List (List ℕ)
+numbers_in sets = map set_keys sets
+
 abbrev pub clients_in : Clients → KeptClients
-clients_in k = record { numbers = keys k.table; table = values k.table; seen = k.seen; rooms = k.rooms.items }
+clients_in k = record {
+  numbers = keys k.table;
+  table = values k.table;
+  seen = k.seen;
+  rooms = k.rooms.items;
+  live = numbers_in k.live.items;
+}
 
 abbrev pub run_in : Running → KeptRun
 run_in w = record { now = w.clock; members = members_in w.members; clients = clients_in w.clients; told = w.told }
@@ -78,6 +88,10 @@ abbrev pub MayChange : Change → Talk → Type 0
 MayChange (change.Told fact) talk = IsTrue (fits_at (asked talk) fact)
 MayChange (change.Placed p) talk = 0 < p.place
 MayChange _ talk = Unit {0}
+
+-- whether numbers have one, where this number was put in or, at its end, taken out
+abbrev pub marked : ℕ → Bool → ℕ → Bool → Bool
+marked number ended n had = if number == n then not ended else had
 
 -- How much is left to do: twice the facts that a session takes at most before more bytes have to come, and one where no entry is proposed.
 -- So each fact lowers it, and each proposal.

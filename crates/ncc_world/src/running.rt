@@ -178,8 +178,8 @@ impl Running {
         requires there { index < length (values self.old.clients.table) }
         ensures ok { OnOk result ((r : ListRun) (c : Client) → RunsAs setup.now (run_in self.old) r → slice_get r.clients index ≡ Some c →
             acts (cluster_of setup.now) r c ≡ true → DoesTo setup.now line r index c (reply (cluster_of setup.now) r c) (run_in self.new)) }
-        ensures lowers { OnOk result ((r : ListRun) (c : Client) → RunsAs setup.now (run_in self.old) r → slice_get r.clients index ≡ Some c →
-            acts (cluster_of setup.now) r c ≡ true → left_in self.new.clients < left_in self.old.clients) }
+        ensures lowers { OnOk result ((r : ListRun) (c : Client) → RunsAs setup.now (run_in self.old) r →
+            slice_get r.clients index ≡ Some c → acts (cluster_of setup.now) r c ≡ true → left_in self.new.clients < left_in self.old.clients) }
     {
         match self.reply_at(alloc, setup, index)? {
             Reply::Waits => Ok(()),
@@ -302,7 +302,8 @@ impl Running {
     ) -> Result<(), Memory>
         requires allowed { IsSetup setup.now }
         requires live { HasRun setup.now self.old }
-        ensures ok { OnOk result ((r : ListRun) → RunsAs setup.now (run_in self.old) r → is_member r member ≡ true →
+        requires there { (r : ListRun) → RunsAs setup.now (run_in self.old) r → is_member r member ≡ true }
+        ensures ok { OnOk result ((r : ListRun) → RunsAs setup.now (run_in self.old) r →
             RunsAs setup.now (run_in self.new) (opened r member printed)) }
         ensures more { OnOk result (length (values self.new.clients.table) ≡ length (values self.old.clients.table) + 1) }
     {

@@ -27,6 +27,10 @@ close-requires-clause-there c =
     (ap (refusal r) (sym c.in-Close.is) ∙ c.requires.taken r c.requires.live.runs_as) in
     omega (arith, made_within r c.in-Close.conn made, n.table)
 
+pub open-requires-clause-there : goal.open-requires-clause-there
+open-requires-clause-there c = λ r k.
+    allowed_by (is_member r c.in-Open.member) NoMember (ap (refusal r) (sym c.in-Open.is) ∙ c.requires.taken r k)
+
 pub returns-in-Time : goal.returns-in-Time
 returns-in-Time c = record {
   ok = λ r k.
@@ -70,8 +74,7 @@ pub returns-in-Open : goal.returns-in-Open
 returns-in-Open c = record {
   ok = on_ok_weaker c.open.result (λ f r k.
       let e = own_open c.args.setup.now r c.in-Open.member ∙ ap (λ (x : Event). own c.args.setup.now x r) (sym c.in-Open.is) in
-      let there = allowed_by (is_member r c.in-Open.member) NoMember (ap (refusal r) (sym c.in-Open.is) ∙ c.requires.taken r k) in
-      subst (RunsAs c.args.setup.now (run_in c.open.new.self)) e (f r k there)) c.open.ensures.ok;
+      subst (RunsAs c.args.setup.now (run_in c.open.new.self)) e (f r k)) c.open.ensures.ok;
 }
 
 pub returns-in_ok-piece-in-Bytes : goal.returns-in_ok-piece-in-Bytes
