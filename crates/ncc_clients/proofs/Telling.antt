@@ -229,13 +229,13 @@ module _ (config : ConnConfig) (all : List Fact) where
         let meta = told_meta config.members.cluster state calls at in
         record {
           fine = (
-              (
-                short_response (s.Success meta),
-                refl,
-                answer_some (s.Success meta),
-                λ le text t. (ended, at, done, told_tells state calls at text t),
-              ),
-              tt,
+            (
+              short_response (s.Success meta),
+              refl,
+              answer_some (s.Success meta),
+              λ le text t. (ended, at, done, told_tells state calls at text t),
+            ),
+            tt,
           );
           asking = tt;
         }

@@ -161,9 +161,9 @@ module _ (config : ConnConfig) {X : Type 0} (sum : List Output → List X) (Stag
       | inl e ↦ inl (ap (λ (is : List Input). (going (move config) start is facts).written) e
           ∙ ap (λ (r : Standing). r.written) (rests_at_start config facts))
       | inr a ↦ inr (
-          (going (move config) connected a.0 facts).written,
-          ap (λ (is : List Input). (going (move config) start is facts).written) a.1
-              ∙ ap (λ (r : Standing). r.written) (starts config a.0 facts),
-          ends requests a.0 facts a.2 s.can h,
-        )
+        (going (move config) connected a.0 facts).written,
+        ap (λ (is : List Input). (going (move config) start is facts).written) a.1
+            ∙ ap (λ (r : Standing). r.written) (starts config a.0 facts),
+        ends requests a.0 facts a.2 s.can h,
+      )
     ]

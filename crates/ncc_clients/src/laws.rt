@@ -1,7 +1,6 @@
 //! What holds of every run, of whatever cluster the four facts hold.
 
 ghost use Rattle.ncc_clients.specs.Laws.{AllIsKept, OfEach, OneWay, RestForgetsNobody, TurnsAreSmall};
-
 ghost use Rattle.ncc_clients.specs.Transacting.{EntersOnce, RoutesAlone, TellsItsBookmark};
 
 use crate::members::Members;
