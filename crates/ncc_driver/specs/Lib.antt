@@ -1,6 +1,8 @@
 pub mod Work
 pub mod Works
 pub mod Config
+pub mod Spelling
+pub mod WorksFit
 pub mod Line
 pub mod Requests
 pub mod Answers

@@ -1,16 +1,15 @@
 //! Three works: one adds to a counter, one puts a pair, and one gets a pair's value.
 
-ghost use Rattle.std.specs.Prelude.{◌≡◌, ◌++◌, ◌∷◌, [], true, false, IfOk, IsTrue};
-ghost use Rattle.std.specs.Option.{option_copied};
+ghost use Rattle.std.specs.Prelude.{◌≡◌, ◌++◌, ◌∷◌, [], true, false, List, IfOk, OnErr, IsTrue};
 ghost use Rattle.ncc_pack.specs.declared.value.Value.TheVariants as v;
-ghost use Rattle.ncc_pack.specs.Fits.{fits};
+ghost use Rattle.ncc_pack.specs.Fits.{fits, fits_i64};
+ghost use Rattle.ncc_driver.specs.declared.work.WorkStep.TheVariants as s;
+ghost use Rattle.ncc_driver.specs.Work.{Row};
 ghost use Rattle.ncc_driver.specs.Works as w;
-
-ghost use Rattle.std.specs.Prelude.{pos};
 
 use crate::requests::{with, with_text};
 use crate::work::{Work, WorkStep};
-use ncc_pack::{Dict, Memory, Rows, Text, Value, text_fits};
+use ncc_pack::{Dict, Memory, Rows, Text, Value};
 use std::alloc::Global;
 
 /// Adds to a counter: reads its value, which is 0 where there is none, and sets it to the sum.
@@ -19,10 +18,11 @@ pub struct Add {
     key: Text,
     by: i64,
     // What was read, and how many steps there were, of which two count.
-    old: Value,
+    found: Value,
     steps: u8,
     alloc: Global,
     ghost keep: { IsTrue (fits (v.Text key)) },
+    ghost by_keep: { IsTrue (fits_i64 by) },
 }
 
 /// Sets the value of a pair.
@@ -53,14 +53,18 @@ const PUTS: &str = "MERGE (n:Pair {k: $k}) SET n.v = $v";
 
 const GETS: &str = "MATCH (n:Pair {k: $k}) RETURN n.v";
 
-fn run(alloc: Global, query: &str, params: Dict) -> Result<WorkStep, Memory> {
+fn run(alloc: Global, query: &str, params: Dict) -> Result<WorkStep, Memory>
+    ensures { IfOk result (λ step. step ≡ s.Run query.now params) }
+{
     Ok(WorkStep::Run {
         query: Text::from_str(alloc, query)?,
         params,
     })
 }
 
-fn with_key(alloc: Global, key: &Text) -> Result<Dict, Memory> {
+fn with_key(alloc: Global, key: &Text) -> Result<Dict, Memory>
+    ensures { IfOk result (λ params. params ≡ w.key_at key.now ∷ []) }
+{
     with_text(alloc, Dict::new(alloc), "k", key.as_str())
 }
 
@@ -84,39 +88,53 @@ impl Add {
     /// A work that adds `by` to the counter `key`.
     pub fn new(alloc: Global, key: Text, by: i64) -> Add
         requires fits { IsTrue (fits (v.Text key)) }
+        ensures writes { ⟦<Add as Work>⟧.writing result ≡ true }
+        ensures steps { ⟦<Add as Work>⟧.steps result ≡ w.add_steps key by }
     {
         Add {
             key,
             by,
-            old: Value::Int(0),
+            found: Value::Int(0),
             steps: 0,
             alloc,
         }
     }
 
-    fn raise(&self, old: &Value) -> Result<WorkStep, Memory> {
+    fn raise(&self, old: &Value) -> Result<WorkStep, Memory>
+        ensures { IfOk result (λ step. step ≡ w.raises_counter self.now.key self.now.by old.now) }
+    {
         let params = with_key(self.alloc, &self.key)?;
         let params = with(self.alloc, params, "old", old.copy()?)?;
         let params = with(self.alloc, params, "d", Value::Int(self.by))?;
         run(self.alloc, RAISES, params)
     }
 
-    fn again(&self) -> Result<WorkStep, Memory> {
+    fn again(&self) -> Result<WorkStep, Memory>
+        ensures { (told : List (List Row)) → w.AddStands self.now.steps self.now.found told
+            → IfOk result (λ step. step ≡ w.add_steps self.now.key self.now.by told) }
+    {
         match self.steps {
             0 => run(self.alloc, READS, with_key(self.alloc, &self.key)?),
-            1 => self.raise(&self.old),
+            1 => self.raise(&self.found),
             _ => Ok(WorkStep::Commit),
         }
     }
 
-    fn on_rows(&mut self, rows: &Rows) -> Result<WorkStep, Memory> {
+    fn on_rows(&mut self, rows: &Rows) -> Result<WorkStep, Memory>
+        ensures ok { (told : List (List Row)) → w.AddStands self.old.steps self.old.found told
+            → IfOk result (λ step. step ≡ w.add_steps self.old.key self.old.by (told ++ rows.now ∷ [])) }
+        ensures goes_on { (told : List (List Row)) → w.AddStands self.old.steps self.old.found told
+            → IfOk result (λ _. w.AddStands self.new.steps self.new.found (told ++ rows.now ∷ [])) }
+        ensures same { (self.new.key ≡ self.old.key) × (self.new.by ≡ self.old.by) }
+        ensures err { OnErr result (self.new ≡ self.old) }
+    {
         if self.steps != 0 {
             self.steps = 2;
             return Ok(WorkStep::Commit);
         }
-        let old = old_in(rows)?;
-        let step = self.raise(&old)?;
-        self.old = old;
+        let found = old_in(rows)?;
+        let step = self.raise(&found)?;
+        self.found = found;
         self.steps = 1;
         Ok(step)
     }
@@ -127,9 +145,11 @@ impl Work for Add {
 
     ghost steps = { λ a. w.add_steps a.key a.by };
 
-    ghost stands = { λ a told. w.AddStands a.steps a.old told };
+    ghost stands = { λ a told. w.AddStands a.steps a.found told };
 
-    ghost fitting = { ? };
+    ghost use Rattle.ncc_driver.specs.WorksFit.{add_fits};
+
+    ghost fitting = { λ a told h. add_fits a.key a.by told a.keep a.by_keep h };
 
     fn start(&mut self) {
         self.steps = 0;
@@ -152,6 +172,8 @@ impl Put {
     pub fn new(alloc: Global, key: Text, value: Text) -> Put
         requires fits { IsTrue (fits (v.Text key)) }
         requires value_fits { IsTrue (fits (v.Text value)) }
+        ensures writes { ⟦<Put as Work>⟧.writing result ≡ true }
+        ensures steps { ⟦<Put as Work>⟧.steps result ≡ w.put_steps key value }
     {
         Put {
             key,
@@ -169,7 +191,9 @@ impl Work for Put {
 
     ghost stands = { λ p told. w.RanStands p.ran told };
 
-    ghost fitting = { ? };
+    ghost use Rattle.ncc_driver.specs.WorksFit.{put_fits};
+
+    ghost fitting = { λ p told h. put_fits p.key p.value told p.keep p.value_keep };
 
     fn start(&mut self) {
         self.ran = false;
@@ -194,6 +218,8 @@ impl Get {
     /// A work that reads the value of the pair `key`.
     pub fn new(alloc: Global, key: Text) -> Get
         requires fits { IsTrue (fits (v.Text key)) }
+        ensures reads { ⟦<Get as Work>⟧.writing result ≡ false }
+        ensures steps { ⟦<Get as Work>⟧.steps result ≡ w.get_steps key }
     {
         Get {
             key,
@@ -210,7 +236,9 @@ impl Work for Get {
 
     ghost stands = { λ g told. w.RanStands g.ran told };
 
-    ghost fitting = { ? };
+    ghost use Rattle.ncc_driver.specs.WorksFit.{get_fits};
+
+    ghost fitting = { λ g told h. get_fits g.key told g.keep };
 
     fn start(&mut self) {
         self.ran = false;
