@@ -1,2 +1,4 @@
 pub mod Turning
 pub mod RowTexts
+pub mod Sending
+pub mod TableParts

@@ -1,5 +1,5 @@
 -- What a session's state keeps: what it will send has a spelling.
-use Rattle.std.specs.Prelude.{ℕ, Bool, true, ◌&&◌, nat_le, List, [], ◌∷◌, ◌++◌, Option, Some, None}
+use Rattle.std.specs.Prelude.{ℕ, Bool, true, ◌&&◌, nat_le, List, [], ◌∷◌, ◌++◌, length, Option, Some, None}
 use Rattle.ncc_pack.specs.declared.value.Value.{Value}
 use Rattle.ncc_pack.specs.declared.value.Value.TheVariants as v
 use Rattle.ncc_pack.specs.Fits.{fits}
@@ -17,11 +17,11 @@ abbrev pub table_fits : Option Table → Bool
 table_fits (Some table) = addresses_fit table
 table_fits None = true
 
--- Bookmarks and addresses are texts with a spelling, the rows fit, and the delay is at most 30,000 milliseconds.
+-- Bookmarks, at most 256, and addresses are texts with a spelling, the rows fit, and the delay is at most 30,000 milliseconds.
 abbrev pub core_keeps : Core → Bool
 core_keeps core =
-    texts_fit core.bookmarks && texts_fit core.route && table_fits core.table && fits (v.Text core.address) && rows_fit core.rows
-    && nat_le core.delay 30_000
+    texts_fit core.bookmarks && nat_le (length core.bookmarks) 256 && texts_fit core.route && table_fits core.table
+    && fits (v.Text core.address) && rows_fit core.rows && nat_le core.delay 30_000
 
 -- ---- what an answer tells
 

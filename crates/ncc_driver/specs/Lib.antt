@@ -6,6 +6,7 @@ pub mod WorksFit
 pub mod Line
 pub mod Requests
 pub mod Answers
+pub mod Tables
 pub mod State
 pub mod Keeping
 pub mod Attempts

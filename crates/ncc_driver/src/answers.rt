@@ -1,9 +1,10 @@
 //! What a server's message tells of the request whose answer is awaited (Bolt 4.4, "Messages").
 
-ghost use Rattle.std.specs.Prelude.{◌≡◌, ◌≢◌, ◌↔◌, ◌++◌, List, [], map, codes, IfOk, OnOk, IsTrue, Some, None};
+ghost use Rattle.std.specs.Prelude.{◌≡◌, ◌≢◌, ◌↔◌, ◌++◌, List, codes, IfOk, IfSome, IfNone, OnOk, IsTrue, Some, None};
 ghost use Rattle.std.specs.Option.{option_copied};
-ghost use Rattle.ncc_pack.specs.declared.value.Value.TheVariants as v;
 ghost use Rattle.ncc_driver.specs.Answers as t;
+ghost use Rattle.ncc_driver.specs.Tables.{AreServers, of_role};
+ghost use Rattle.ncc_driver.specs.Keeping.{told_fits};
 ghost use Rattle.ncc_driver.specs.Work.{rows_fit};
 
 use crate::standing::Asked;
@@ -84,7 +85,10 @@ fn are_servers(values: &[Value]) -> bool
 }
 
 /// Appends the addresses of an entry, where it has this role.
-fn add_server(value: &Value, role: &str, all: &mut Values) -> Result<(), Memory> {
+fn add_server(value: &Value, role: &str, all: &mut Values) -> Result<(), Memory>
+    ensures { (server : t.Served) → t.server_in value.now ≡ Some server
+        → OnOk result (all.new ≡ all.old ++ of_role role.now server) }
+{
     let Value::Dict(pairs) = value else {
         return Ok(());
     };
@@ -138,7 +142,10 @@ fn seconds_at(meta: &Dict, key: &str) -> Option<u64>
 }
 
 /// The entries of a table, where each has a role and addresses.
-fn servers_at(meta: &Dict) -> Option<&Values> {
+fn servers_at(meta: &Dict) -> Option<&Values>
+    ensures some { IfSome result (λ values. AreServers values.now (t.servers_at (t.list_in (t.value_at (codes "servers") meta.now)))) }
+    ensures none { IfNone result (t.servers_at (t.list_in (t.value_at (codes "servers") meta.now)) ≡ None) }
+{
     match meta.get("servers") {
         Some(Value::List(values)) => {
             if are_servers(values.as_slice()) {
@@ -256,7 +263,8 @@ pub fn read_answer(
     message: &[u8],
 ) -> Result<Told, Memory>
     requires fits { IsTrue (rows_fit rows.now) }
-    ensures exact { IfOk result (λ r. r ≡ t.message_of asked now rows.now message.now) }
+    ensures exact { IfOk result (λ told. told ≡ t.message_of asked now rows.now message.now) }
+    ensures fits { IfOk result (λ told. IsTrue (told_fits rows.now told)) }
 {
     let response = match read_response(alloc, message) {
         Ok(response) => response,

@@ -1,11 +1,7 @@
 //! The requests of an attempt, as Bolt 4.4 writes them.
 
-ghost use Rattle.std.specs.Prelude.{◌≡◌, ◌++◌, ◌∷◌, [], codes, IfOk, OnOk, OnErr, IsTrue};
-ghost use Rattle.ncc_pack.specs.declared.value.Value.TheVariants as v;
-ghost use Rattle.ncc_pack.specs.Fits.{fits};
-ghost use Rattle.ncc_bolt.specs.Writing.{short_request, fits_request};
-ghost use Rattle.ncc_chunk.specs.Chunked.{chunked};
-ghost use Rattle.ncc_driver.specs.Config.{auth_fits, texts_fit};
+ghost use Rattle.std.specs.Prelude.{◌≡◌, ◌++◌, ◌∷◌, [], IfOk, OnOk, IsTrue};
+ghost use Rattle.ncc_bolt.specs.Writing.{fits_request};
 ghost use Rattle.ncc_driver.specs.Requests as q;
 
 use crate::action::Action;
@@ -102,15 +98,15 @@ fn with_credentials(alloc: Global, pairs: Dict, auth: &Auth) -> Result<Dict, Mem
         Auth::Basic { user, password } => {
             let pairs = with_text(alloc, pairs, "scheme", "basic")?;
             let pairs = with_text(alloc, pairs, "principal", user.as_str())?;
-            with_text(alloc, pairs, "credentials", password.as_str())
+            let pairs = with_text(alloc, pairs, "credentials", password.as_str())?;
+            Ok(pairs)
         }
     }
 }
 
 /// HELLO on a link that leads to an address.
 pub fn hello(alloc: Global, auth: &Auth, address: &Text) -> Result<Request, Memory>
-    ensures exact { IfOk result (λ r. r ≡ q.hello auth.now address.now) }
-    ensures fits { IsTrue (auth_fits auth.now) → IsTrue (fits (v.Text address.now)) → IfOk result (λ r. IsTrue (fits_request r)) }
+    ensures { IfOk result (λ r. r ≡ q.hello auth.now address.now) }
 {
     let extra = with_text(alloc, Dict::new(alloc), "user_agent", "ncc/1")?;
     let extra = with_credentials(alloc, extra, auth)?;
@@ -121,8 +117,7 @@ pub fn hello(alloc: Global, auth: &Auth, address: &Text) -> Result<Request, Memo
 
 /// ROUTE on a link that leads to an address.
 pub fn route(alloc: Global, address: &Text) -> Result<Request, Memory>
-    ensures exact { IfOk result (λ r. r ≡ q.route address.now) }
-    ensures fits { IsTrue (fits (v.Text address.now)) → IfOk result (λ r. IsTrue (fits_request r)) }
+    ensures { IfOk result (λ r. r ≡ q.route address.now) }
 {
     Ok(Request::Route {
         routing: routing(alloc, address)?,
@@ -133,8 +128,7 @@ pub fn route(alloc: Global, address: &Text) -> Result<Request, Memory>
 
 /// BEGIN of a transaction that presents bookmarks.
 pub fn begin(alloc: Global, bookmarks: &Values, writes: bool) -> Result<Request, Memory>
-    ensures exact { IfOk result (λ r. r ≡ q.begin bookmarks.now writes) }
-    ensures fits { IsTrue (texts_fit bookmarks.now) → IfOk result (λ r. IsTrue (fits_request r)) }
+    ensures { IfOk result (λ r. r ≡ q.begin bookmarks.now writes) }
 {
     let mode = if writes { "w" } else { "r" };
     let bookmarks = bookmarks.copy()?;
@@ -156,8 +150,7 @@ pub fn run(alloc: Global, query: Text, params: Dict) -> Request
 
 /// PULL of all rows.
 pub fn pull(alloc: Global) -> Result<Request, Memory>
-    ensures exact { IfOk result (λ r. r ≡ q.pull) }
-    ensures fits { IfOk result (λ r. IsTrue (fits_request r)) }
+    ensures { IfOk result (λ r. r ≡ q.pull) }
 {
     let extra = with(alloc, Dict::new(alloc), "n", Value::Int(-1))?;
     Ok(Request::Pull { extra })
