@@ -2,5 +2,8 @@ pub mod Turning
 pub mod RowTexts
 pub mod Sending
 pub mod Linking
+pub mod Kept
+pub mod Picking
+pub mod Joining
 pub mod TableParts
 pub mod ToldFits

@@ -7,11 +7,14 @@ use Rattle.ncc_pack.specs.declared.value.Value.TheVariants as v
 use Rattle.ncc_pack.specs.Limits.{max_size}
 use Rattle.ncc_pack.specs.Fits.{fits, fits_text, fits_within}
 use Rattle.ncc_bolt.specs.Fields.{Pairs}
+use Rattle.ncc_bolt.specs.declared.message.Request.{Request}
 use Rattle.ncc_bolt.specs.Writing.{fits_request}
 use Rattle.ncc_route.specs.declared.auth.Auth.{Auth}
 use Rattle.ncc_route.specs.declared.auth.Auth.TheVariants.{Nobody, Basic}
+use Rattle.ncc_driver.specs.declared.work.WorkStep.TheVariants.{Run}
 use Rattle.ncc_driver.specs.Config.{auth_fits, texts_fit}
-use Rattle.ncc_driver.specs.Requests.{text_at, routing, credentials, hello, route, mode, begin, pull}
+use Rattle.ncc_driver.specs.Work.{step_fits}
+use Rattle.ncc_driver.specs.Requests.{text_at, routing, credentials, hello, route, mode, begin, run, pull}
 use Rattle.ncc_driver.specs.Spelling.{all_fit, text_alone, number_within, list_within, literal, pair_on, text_on, dict_by, none_fits}
 use Rattle.ncc_driver.specs.Spelling.{texts_within}
 
@@ -21,7 +24,7 @@ routing_within address d h = dict_by (routing address) d refl (text_on (codes "a
 last_fits : (address : List ℕ) → fits (v.Text address) ≡ true → all_fit ((codes "routing", v.Dict (routing address)) ∷ []) 31 ≡ true
 last_fits address h = pair_on (codes "routing") (v.Dict (routing address)) [] 31 refl (routing_within address 30 h) refl
 
-pub hello_fits : (auth : Auth) (address : List ℕ) → auth_fits auth ≡ true → fits (v.Text address) ≡ true
+hello_fits : (auth : Auth) (address : List ℕ) → auth_fits auth ≡ true → fits (v.Text address) ≡ true
     → fits_request (hello auth address) ≡ true
 hello_fits Nobody address a h =
     let last = (codes "routing", v.Dict (routing address)) ∷ [] in
@@ -42,14 +45,14 @@ hello_fits (Basic user password) address a h =
 no_list : fits (v.List []) ≡ true
 no_list = list_within [] 32 (omega arith)
 
-pub route_fits : (address : List ℕ) → fits (v.Text address) ≡ true → fits_request (route address) ≡ true
+route_fits : (address : List ℕ) → fits (v.Text address) ≡ true → fits_request (route address) ≡ true
 route_fits address h = rw (routing_within address 31 h, no_list, none_fits) refl
 
 mode_text : (writes : Bool) → fits_text (mode writes) ≡ true
 mode_text true = literal (codes "w") refl
 mode_text false = literal (codes "r") refl
 
-pub begin_fits : (bookmarks : List Value) (writes : Bool) → texts_fit bookmarks ≡ true → length bookmarks ≤ max_size
+begin_fits : (bookmarks : List Value) (writes : Bool) → texts_fit bookmarks ≡ true → length bookmarks ≤ max_size
     → fits_request (begin bookmarks writes) ≡ true
 begin_fits bookmarks writes h few =
     let all : fits_within (v.List bookmarks) 31 ≡ true =
@@ -58,12 +61,12 @@ begin_fits bookmarks writes h few =
     dict_by ((codes "bookmarks", v.List bookmarks) ∷ text_at (codes "mode") (mode writes) ∷ []) 31 refl
     (pair_on (codes "bookmarks") (v.List bookmarks) (text_at (codes "mode") (mode writes) ∷ []) 31 refl all last) refl
 
-pub pull_fits : fits_request pull ≡ true
+pull_fits : fits_request pull ≡ true
 pull_fits =
     dict_by ((codes "n", v.Int (negsuc zero)) ∷ []) 31 refl
     (pair_on (codes "n") (v.Int (negsuc zero)) [] 31 refl (number_within (negsuc zero) 31 refl) refl) refl
 
-pub run_fits : (query : List ℕ) (params : List (List ℕ × Value)) → (fits (v.Text query) && fits (v.Dict params)) ≡ true
+run_fits : (query : List ℕ) (params : List (List ℕ × Value)) → (fits (v.Text query) && fits (v.Dict params)) ≡ true
     → (fits (v.Text query) && fits (v.Dict params) && fits (v.Dict [])) ≡ true
 run_fits query params h = rw none_fits (grind arith)
 
@@ -82,3 +85,26 @@ credentials_on auth user password u p pairs one two three a us ps e f g =
     three_behind pairs one two three _ _ _ e (f ∙ ap (λ (t : List ℕ). one ++ text_at (codes "principal") t ∷ []) us)
     (g ∙ ap (λ (t : List ℕ). two ++ text_at (codes "credentials") t ∷ []) ps)
     ∙ ap (λ (x : Auth). pairs ++ credentials x) (sym a)
+
+-- ---- the same of what was made
+
+pub hello_sent : (request : Request) (auth : Auth) (address : List ℕ) → request ≡ hello auth address → auth_fits auth ≡ true
+    → fits (v.Text address) ≡ true → fits_request request ≡ true
+hello_sent request auth address e h f = ap fits_request e ∙ hello_fits auth address h f
+
+pub route_sent : (request : Request) (address : List ℕ) → request ≡ route address → fits (v.Text address) ≡ true
+    → fits_request request ≡ true
+route_sent request address e h = ap fits_request e ∙ route_fits address h
+
+pub begin_sent : (request : Request) (bookmarks : List Value) (writes : Bool) → request ≡ begin bookmarks writes → texts_fit bookmarks ≡ true
+    → nat_le (length bookmarks) 256 ≡ true → fits_request request ≡ true
+begin_sent request bookmarks writes e h f =
+    let few : length bookmarks ≤ 256 = grind arith in
+    ap fits_request e ∙ begin_fits bookmarks writes h (omega arith)
+
+pub pull_sent : (request : Request) → request ≡ pull → fits_request request ≡ true
+pull_sent request e = ap fits_request e ∙ pull_fits
+
+pub run_sent : (request : Request) (query : List ℕ) (params : Pairs) → request ≡ run query params → step_fits (Run query params) ≡ true
+    → fits_request request ≡ true
+run_sent request query params e h = ap fits_request e ∙ run_fits query params h

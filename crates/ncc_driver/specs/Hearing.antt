@@ -5,6 +5,11 @@ use Rattle.ncc_chunk.specs.Chunks.{EndsAfter, IsTooLongAfter}
 use Rattle.ncc_chunk.specs.Inflow.{Inflow, Stands as StandsFor, HandsOut as HandsMessage}
 use Rattle.ncc_driver.specs.declared.config.SessionConfig.{SessionConfig}
 use Rattle.ncc_driver.specs.declared.standing.Core.{Core}
+use Rattle.ncc_driver.specs.declared.standing.Asked.{Asked}
+use Rattle.ncc_driver.specs.declared.standing.Asked.TheVariants as a
+use Rattle.ncc_driver.specs.declared.answers.Told.{Told}
+use Rattle.ncc_driver.specs.declared.answers.Told.TheVariants as m
+use Rattle.ncc_driver.specs.Answers.{shake_of}
 use Rattle.ncc_driver.specs.declared.standing.Stage.{Stage}
 use Rattle.ncc_driver.specs.declared.standing.Stage.TheVariants as stage
 use Rattle.ncc_driver.specs.declared.action.Action.{Action}
@@ -47,6 +52,11 @@ TakesItem old (Some item) new =
     → (drop taken (items_of came) ≡ item ∷ drop (taken + 1) (items_of came)) × KeepsBehind item new came (taken + 1)
 TakesItem old None new =
     (came : List ℕ) (taken : ℕ) → Keeps old came taken → (drop taken (items_of came) ≡ []) × Keeps new came taken
+
+-- what four bytes tell
+abbrev pub shake_told : Asked → List ℕ → Told
+shake_told (a.Shake leg) bytes = shake_of bytes
+shake_told _ bytes = m.Bad
 
 -- ---- going on by what came
 

@@ -2,11 +2,13 @@
 
 ghost use Rattle.std.specs.Prelude.{◌≡◌, ◌++◌, ◌≤◌, IfOk, OnOk, IsTrue, Some, true};
 ghost use Rattle.ncc_driver.specs.Attempts as t;
+ghost use Rattle.ncc_route.specs.Routing as r;
 ghost use Rattle.ncc_driver.specs.Config.{texts_fit, config_fits};
 ghost use Rattle.ncc_driver.specs.Keeping.{as_text, core_keeps, table_fits, told_fits};
 ghost use Rattle.ncc_driver.specs.declared.standing.Stage.TheVariants as stage;
 ghost use Rattle.ncc_driver.specs.State.{Makes, MakesAnew, MakesWith};
 ghost use Rattle.ncc_driver.specs.Requests.{asks};
+ghost use Rattle.ncc_driver.specs.Hearing.{shake_told};
 ghost use Rattle.ncc_driver.specs.Session.{told_by};
 ghost use Rattle.ncc_driver.specs.Talk.{StandsAsked, StandsAt};
 ghost use Rattle.ncc_driver.specs.Work.{job_by, step_fits, rows_fit};
@@ -42,7 +44,7 @@ fn connect(
 /// The address of a role that a word picks.
 fn picked(table: &Option<Table>, role: Role, word: u32) -> Result<Option<Text>, Memory>
     requires fits { IsTrue (table_fits table.now) }
-    ensures { IfOk result (λ found. t.picked word (t.addresses_in role table.now) ≡ as_text found) }
+    ensures { IfOk result (λ found. r.picked word (t.addresses_in role table.now) ≡ as_text found) }
 {
     let Some(table) = table else {
         return Ok(None);
@@ -51,6 +53,12 @@ fn picked(table: &Option<Table>, role: Role, word: u32) -> Result<Option<Text>, 
         Ok(address) => Ok(Some(address.copy()?)),
         Err(_) => Ok(None),
     }
+}
+
+fn role_of(writes: bool) -> Role
+    ensures { result ≡ t.role_of writes }
+{
+    if writes { Role::Write } else { Role::Read }
 }
 
 /// Connects to the server of the transaction: the next word picks it among the table's of the role.
@@ -63,7 +71,7 @@ fn join_server(
     requires keeps { IsTrue (core_keeps core.old) }
     ensures ok { OnOk result (Makes (λ p. t.joins_server writes p now) core.old core.new queue.old.items queue.new.items) }
 {
-    let role = if writes { Role::Write } else { Role::Read };
+    let role = role_of(writes);
     let word = core.words.next_word();
     match picked(&core.table, role, word)? {
         Some(address) => connect(core, Leg::Working, address, queue),
@@ -88,7 +96,7 @@ fn routers<'a>(config: &'a SessionConfig, route: &'a Values) -> &'a Values
 /// The router whose turn it is.
 fn router(routers: &Values, connects: u64) -> Result<Option<Text>, Memory>
     requires fits { IsTrue (texts_fit routers.now) }
-    ensures { IfOk result (λ found. t.picked connects routers.now ≡ as_text found) }
+    ensures { IfOk result (λ found. r.picked connects routers.now ≡ as_text found) }
 {
     if routers.is_empty() {
         return Ok(None);
@@ -159,7 +167,8 @@ fn send(
     queue: &mut Actions,
 ) -> Result<(), Memory>
     requires fits { IsTrue (fits_request request.now) }
-    ensures ok { OnOk result (Makes (λ p. t.awaits p asked (asks request.now)) core.old core.new queue.old.items queue.new.items) }
+    ensures core { OnOk result (core.new ≡ record core.old { stage = stage.Awaits asked }) }
+    ensures queue { OnOk result (queue.new.items ≡ queue.old.items ++ asks request.now) }
 {
     core.stage = Stage::Awaits(asked);
     ask(alloc, request, queue)
@@ -268,6 +277,15 @@ fn keep_table(
     join_server(writes, core, now, queue)
 }
 
+fn told_shake(asked: Asked, bytes: &[u8]) -> Told
+    ensures { result ≡ shake_told asked bytes.now }
+{
+    match asked {
+        Asked::Shake(_) => shaken(bytes),
+        _ => Told::Bad,
+    }
+}
+
 /// What an item of the link tells of the request.
 fn told_by(alloc: Global, core: &Core, asked: Asked, now: u64, item: Item) -> Result<Told, Memory>
     requires fits { IsTrue (rows_fit core.now.rows) }
@@ -275,7 +293,7 @@ fn told_by(alloc: Global, core: &Core, asked: Asked, now: u64, item: Item) -> Re
     ensures fits { IfOk result (λ told. IsTrue (told_fits core.now.rows told)) }
 {
     match item {
-        Item::Shaken(bytes) => Ok(shaken(bytes.as_slice())),
+        Item::Shaken(bytes) => Ok(told_shake(asked, bytes.as_slice())),
         Item::Message(message) => read_answer(alloc, asked, now, &core.rows, message.as_slice()),
         Item::TooLong => Ok(Told::Bad),
     }
