@@ -8,18 +8,20 @@ use Rattle.ncc_pack.specs.declared.value.Value.TheVariants as v
 use Rattle.ncc_route.specs.declared.table.Table.{Table}
 use Rattle.ncc_route.specs.declared.table.Role.{Role}
 use Rattle.ncc_route.specs.Routing.{picked}
-use Rattle.ncc_driver.specs.Work.{Row}
+use Rattle.ncc_driver.specs.Work.{Row, rows_fit}
 use Rattle.ncc_driver.specs.declared.config.SessionConfig.{SessionConfig}
 use Rattle.ncc_driver.specs.declared.standing.Core.{Core}
 use Rattle.ncc_driver.specs.declared.standing.Leg.TheVariants.{Routing, Working}
 use Rattle.ncc_driver.specs.declared.action.Action.{Action}
 use Rattle.ncc_driver.specs.declared.action.Last.TheVariants as last
-use Rattle.ncc_driver.specs.Keeping.{as_text}
+use Rattle.ncc_driver.specs.Config.{config_fits}
+use Rattle.ncc_driver.specs.Keeping.{as_text, core_keeps}
 use Rattle.ncc_driver.specs.Requests.{closes}
-use Rattle.ncc_driver.specs.State.{Place, Turned, Makes, MakesAnew}
+use Rattle.ncc_driver.specs.State.{Place, Turned, Makes}
 use Rattle.ncc_driver.specs.Attempts.{connects, retries, joins, joins_server, joins_by, joins_router, role_of, addresses_in, or_else, drawn}
-use Rattle.ncc_driver.specs.Attempts.{drops_table, at_core, one_more, opened, attempts, is_fresh, keeps_table, keeps_and_joins}
+use Rattle.ncc_driver.specs.Attempts.{drops_table, at_core, one_more, keeps_table, keeps_and_joins}
 use Rattle.ncc_driver.proofs.Turning.{closed}
+use Rattle.ncc_driver.proofs.Kept.{Kept, kept_of, keeps_by, no_rows, joins_server_kept, joins_router_kept}
 
 -- a turn makes this of these rows
 abbrev MakesOf : Turned → Option (List (List Row)) → Core → List Action → List Action → Type 0
@@ -85,31 +87,38 @@ router_some config core new all found address count before after a e f n h told 
 
 -- ---- an attempt
 
-pub fresh_attempt : (config : SessionConfig) (writes : Bool) (now : ℕ) (core new : Core) (count : ℕ) (rows : List Row) (b : Bool)
-    (before after : List Action) → b ≡ is_fresh now core.table → b ≡ true → count ≡ one_more core.attempts → rows ≡ []
-    → Makes (λ p. joins_server writes p now) (record core { attempts = count; rows = rows }) new before after
-    → MakesAnew (λ p. attempts config writes p now) core new before after
-fresh_attempt config writes now core new count rows b before after f e n z h told =
-    let p : Place = record { core = core; told = told } in
-    let is : attempts config writes p now ≡ joins_server writes (opened p) now = rw (sym f ∙ e) refl in
-    let g = subst (λ (x : ℕ). MakesOf (joins_server writes (record { core = record core { attempts = x; rows = rows }; told = None }) now)
-    None new before after) n (h None) in
-    let g' = subst (λ (x : List Row). MakesOf (joins_server writes (record { core = record core { attempts = one_more core.attempts; rows = x };
-    told = None }) now) None new before after) z g in
-    subst (λ (t : Turned). MakesOf t None new before after) (sym is) g'
+made_kept : (turn : Place → Turned) (old new : Core) (before after : List Action) → Makes turn old new before after
+    → Kept (turn (record { core = old; told = None })).place.core → core_keeps new ≡ true
+made_kept turn old new before after h k =
+    let e : (turn (record { core = old; told = None })).place.core ≡ new = ap (λ (p : Place). p.core) (h None).0 in
+    keeps_by new (subst (λ (c : Core). Kept c) e k)
 
-pub routed_attempt : (config : SessionConfig) (writes : Bool) (now : ℕ) (core new : Core) (count : ℕ) (rows : List Row) (b : Bool)
-    (before after : List Action) → b ≡ is_fresh now core.table → b ≡ false → count ≡ one_more core.attempts → rows ≡ []
-    → Makes (λ p. joins_router config p) (record core { attempts = count; rows = rows }) new before after
-    → MakesAnew (λ p. attempts config writes p now) core new before after
-routed_attempt config writes now core new count rows b before after f e n z h told =
-    let p : Place = record { core = core; told = told } in
-    let is : attempts config writes p now ≡ joins_router config (opened p) = rw (sym f ∙ e) refl in
-    let g = subst (λ (x : ℕ). MakesOf (joins_router config (record { core = record core { attempts = x; rows = rows }; told = None }))
-    None new before after) n (h None) in
-    let g' = subst (λ (x : List Row). MakesOf (joins_router config (record { core = record core { attempts = one_more core.attempts; rows = x };
-    told = None })) None new before after) z g in
-    subst (λ (t : Turned). MakesOf t None new before after) (sym is) g'
+opened_kept : (core : Core) (count : ℕ) (rows : List Row) → rows ≡ [] → Kept core → Kept (record core { attempts = count; rows = rows })
+opened_kept core count rows z k = record {
+  bookmarks = k.bookmarks;
+  few = k.few;
+  route = k.route;
+  table = k.table;
+  address = k.address;
+  rows = ap rows_fit z ∙ no_rows;
+  delay = k.delay;
+}
+
+pub server_keeps : (writes : Bool) (now : ℕ) (core new : Core) (count : ℕ) (rows : List Row) (before after : List Action) → rows ≡ []
+    → core_keeps core ≡ true
+    → Makes (λ p. joins_server writes p now) (record core { attempts = count; rows = rows }) new before after → core_keeps new ≡ true
+server_keeps writes now core new count rows before after z k h =
+    let opened : Core = record core { attempts = count; rows = rows } in
+    made_kept (λ p. joins_server writes p now) opened new before after h
+    (joins_server_kept writes (record { core = opened; told = None }) now (opened_kept core count rows z (kept_of core k)))
+
+pub router_keeps : (config : SessionConfig) (core new : Core) (count : ℕ) (rows : List Row) (before after : List Action) → rows ≡ []
+    → config_fits config ≡ true → core_keeps core ≡ true
+    → Makes (λ p. joins_router config p) (record core { attempts = count; rows = rows }) new before after → core_keeps new ≡ true
+router_keeps config core new count rows before after z f k h =
+    let opened : Core = record core { attempts = count; rows = rows } in
+    made_kept (λ p. joins_router config p) opened new before after h
+    (joins_router_kept config (record { core = opened; told = None }) f (opened_kept core count rows z (kept_of core k)))
 
 -- ---- a table that was got
 

@@ -221,7 +221,7 @@ drawn_kept core k = record {
   delay = k.delay;
 }
 
-joins_server_kept : (writes : Bool) (p : Place) (now : ℕ) → Kept p.core → Kept (joins_server writes p now).place.core
+pub joins_server_kept : (writes : Bool) (p : Place) (now : ℕ) → Kept p.core → Kept (joins_server writes p now).place.core
 joins_server_kept writes p now k =
     joins_kept p now (role_of writes) (drawn p.core) _ (picked_address _ _ (role_texts writes p.core.table k.table)) (drawn_kept p.core k)
 
@@ -230,7 +230,7 @@ pub routers_fit : (config : SessionConfig) (route : List Value) → config_fits 
 routers_fit config [] h r = right _ _ (left _ _ (left _ _ h))
 routers_fit config (x ∷ xs) h r = r
 
-joins_router_kept : (config : SessionConfig) (p : Place) → config_fits config ≡ true → Kept p.core → Kept (joins_router config p).place.core
+pub joins_router_kept : (config : SessionConfig) (p : Place) → config_fits config ≡ true → Kept p.core → Kept (joins_router config p).place.core
 joins_router_kept config p h k =
     joins_by_kept p _ (router_of config p.core) (picked_address _ _ (routers_fit config p.core.route h k.route)) (record {
       bookmarks = k.bookmarks;

@@ -5,5 +5,6 @@ pub mod Linking
 pub mod Kept
 pub mod Picking
 pub mod Joining
+pub mod Following
 pub mod TableParts
 pub mod ToldFits
