@@ -3,7 +3,6 @@ use Rattle.std.proofs.Common.{◌≡◌, true, false, Bool, List, [], ◌∷◌,
 use Rattle.std.specs.Prelude.{Option, Some, None}
 use Rattle.std.specs.List.{list_all}
 use Rattle.std.proofs.lemmas.List.Folds.{list_all-append}
-use Rattle.ncc_bolt.specs.declared.message.Request.{Request}
 use Rattle.ncc_driver.specs.declared.config.SessionConfig.{SessionConfig}
 use Rattle.ncc_driver.specs.declared.standing.Core.{Core}
 use Rattle.ncc_driver.specs.declared.standing.Leg.{Leg}
@@ -15,11 +14,10 @@ use Rattle.ncc_driver.specs.declared.standing.Stage.TheVariants as stage
 use Rattle.ncc_driver.specs.declared.action.Action.{Action}
 use Rattle.ncc_driver.specs.declared.work.WorkStep.{WorkStep}
 use Rattle.ncc_driver.specs.Hearing.{awaits_more}
-use Rattle.ncc_driver.specs.Requests.{asks, hello, pull}
-use Rattle.ncc_driver.specs.Work.{Row, Job, job_by, rows_fit}
-use Rattle.ncc_driver.specs.State.{Place, Turned, Makes, StandsBehind, BehindAsked, BehindAt, MakesWith}
+use Rattle.ncc_driver.specs.Work.{Row, job_by, rows_fit}
+use Rattle.ncc_driver.specs.State.{Place, Makes, BehindAt, MakesWith}
 use Rattle.ncc_driver.specs.Talk.{StandsSomewhere, StandsAsked, StandsAt}
-use Rattle.ncc_driver.specs.Attempts.{follows, follows_hello, takes_step, so_far}
+use Rattle.ncc_driver.specs.Attempts.{follows, follows_hello, takes_step}
 
 -- rows that a work stands behind
 abbrev Rows : Type 0
@@ -67,51 +65,17 @@ quiet_stands (stage.Joins leg) stands q = tt
 quiet_stands (stage.Awaits asked) stands q = let f : true ≡ false = q in absurd (cc)
 quiet_stands stage.Sleeps stands q = tt
 
--- ---- one answer after another
+-- ---- behind HELLO, and behind the rows of a step
 
--- the same job of a work that goes on
-job_is : (w v : Bool) (s t : Rows → WorkStep) → w ≡ v → s ≡ t → job_by w s ≡ job_by v t
-job_is w v s t e f = ap (λ (x : Bool). job_by x s) e ∙ ap (λ (x : Rows → WorkStep). job_by v x) f
+hello_stands_by : (writes : Bool) (p : Place) (leg : Leg) (stands : Rows → Type 0) → StandsAt (follows_hello writes p leg).place.core.stage stands
+hello_stands_by writes p Routing stands = tt
+hello_stands_by writes p Working stands = tt
 
-pub shake_follows : (config : SessionConfig) (job : Job) (leg : Leg) (old new : Core) (request : Request) (before after : List Action)
-    (stood stands : Rows → Type 0) → request ≡ hello config.auth old.address → new ≡ record old { stage = stage.Awaits (a.Hello leg) }
-    → after ≡ before ++ asks request → MakesWith stood stands (λ p. follows config job p (a.Shake leg)) old new before after
-shake_follows config job leg old new request before after stood stands r n q told h = (
-  sym n,
-  q ∙ ap (λ (x : Request). before ++ asks x) r,
-  subst (λ (c : Core). BehindAt c.stage stands told) (sym n) tt,
-)
-
-hello_quiet : (writes : Bool) (p : Place) (leg : Leg) (stands : Rows → Type 0) (told : Option Rows)
-    → BehindAt (follows_hello writes p leg).place.core.stage stands told
-hello_quiet writes p Routing stands told = tt
-hello_quiet writes p Working stands told = tt
-
-pub hello_follows : (config : SessionConfig) (steps : Rows → WorkStep) (was writes : Bool) (leg : Leg) (old new : Core)
-    (before after : List Action) (stood stands : Rows → Type 0) → writes ≡ was → Makes (λ p. follows_hello writes p leg) old new before after
-    → MakesWith stood stands (λ p. follows config (job_by was steps) p (a.Hello leg)) old new before after
-hello_follows config steps was writes leg old new before after stood stands w m told h =
-    let p : Place = record { core = old; told = told } in
-    let g = subst (λ (b : Bool). Makes (λ q. follows_hello b q leg) old new before after) w m in
-    let e : (follows_hello was p leg).place.core ≡ new = ap (λ (x : Place). x.core) (g told).0 in
-    let t : (follows_hello was p leg).place.told ≡ told = ap (λ (x : Place). x.told) (g told).0 in (
-      e,
-      (g told).1,
-      subst (λ (c : Core). BehindAt c.stage stands (follows_hello was p leg).place.told) e (hello_quiet was p leg stands _),
-    )
-
-pub run_follows : (config : SessionConfig) (job : Job) (old new : Core) (rows : List Row) (request : Request) (before after : List Action)
-    (stood stands : Rows → Type 0) → old.stage ≡ stage.Awaits a.Run → stood ≡ stands → rows ≡ [] → request ≡ pull
-    → new ≡ record old { rows = rows; stage = stage.Awaits a.Pull } → after ≡ before ++ asks request
-    → MakesWith stood stands (λ p. follows config job p a.Run) old new before after
-run_follows config job old new rows request before after stood stands at same z r n q told h =
-    let n' : new ≡ record old { rows = []; stage = stage.Awaits a.Pull } =
-    n ∙ ap (λ (x : List Row). record old { rows = x; stage = stage.Awaits a.Pull }) z in
-    let h' : StandsBehind stood told = subst (λ (s : Stage). BehindAt s stood told) at h in (
-      sym n',
-      q ∙ ap (λ (x : Request). before ++ asks x) r,
-      subst (λ (c : Core). BehindAt c.stage stands told) (sym n') (subst (λ (f : Rows → Type 0). StandsBehind f told) same h'),
-    )
+pub hello_stands : (writes : Bool) (leg : Leg) (old new : Core) (before after : List Action) (stands : Rows → Type 0)
+    → Makes (λ p. follows_hello writes p leg) old new before after → StandsAt new.stage stands
+hello_stands writes leg old new before after stands m =
+    let p : Place = record { core = old; told = None } in
+    subst (λ (c : Core). StandsAt c.stage stands) (ap (λ (x : Place). x.core) (m None).0) (hello_stands_by writes p leg stands)
 
 -- the next step of a work that stands behind these rows
 step_makes : (p : Place) (step : WorkStep) (new : Core) (before after : List Action) (stands : Rows → Type 0) (told : Rows)
@@ -127,29 +91,31 @@ step_makes p step new before after stands told m h =
       subst (λ (o : Option Rows). BehindAt new.stage stands o) (sym told_is) (behind_some new.stage stands told h),
     )
 
-pub begin_follows : (config : SessionConfig) (writes : Bool) (steps : Rows → WorkStep) (step : WorkStep) (old new : Core)
-    (before after : List Action) (stood stands : Rows → Type 0) → step ≡ steps [] → stands []
-    → Makes (λ p. takes_step p step) old new before after
-    → MakesWith stood stands (λ p. follows config (job_by writes steps) p a.Begin) old new before after
-begin_follows config writes steps step old new before after stood stands e s m told h =
-    let g = subst (λ (x : WorkStep). Makes (λ p. takes_step p x) old new before after) e m in
-    step_makes (record { core = old; told = told }) (steps []) new before after stands [] (g (Some [])) s
-
-pub pull_follows : (config : SessionConfig) (writes : Bool) (steps : Rows → WorkStep) (step : WorkStep) (old new : Core)
+pull_makes : (config : SessionConfig) (writes : Bool) (steps : Rows → WorkStep) (step : WorkStep) (old new : Core)
     (before after : List Action) (stood stands : Rows → Type 0) → old.stage ≡ stage.Awaits a.Pull
     → ((told : Rows) → stood told → step ≡ steps (told ++ old.rows ∷ [])) → ((told : Rows) → stood told → stands (told ++ old.rows ∷ []))
     → Makes (λ p. takes_step p step) old new before after
     → MakesWith stood stands (λ p. follows config (job_by writes steps) p a.Pull) old new before after
-pull_follows config writes steps step old new before after stood stands at e s m None h =
+pull_makes config writes steps step old new before after stood stands at e s m None h =
     absurd (subst (λ (x : Stage). BehindAt x stood None) at h)
-pull_follows config writes steps step old new before after stood stands at e s m (Some told) h =
+pull_makes config writes steps step old new before after stood stands at e s m (Some told) h =
     let h' : stood told = subst (λ (x : Stage). BehindAt x stood (Some told)) at h in
     let more = told ++ old.rows ∷ [] in
     let g = subst (λ (x : WorkStep). Makes (λ p. takes_step p x) old new before after) (e told h') m in
     step_makes (record { core = old; told = Some told }) (steps more) new before after stands more (g (Some more)) (s told h')
 
--- nothing follows
-pub same_follows : (config : SessionConfig) (job : Job) (asked : Asked) (old : Core) (before : List Action) (stood stands : Rows → Type 0)
-    → stood ≡ stands → ((p : Place) → follows config job p asked ≡ record { place = p; actions = [] })
-    → MakesWith stood stands (λ p. follows config job p asked) old old before before
-same_follows config job asked old before stood stands same f told h = ?
+pub pull_follows : (config : SessionConfig) (writes : Bool) (steps : Rows → WorkStep) (step : WorkStep) (asked : Asked) (old new : Core)
+    (before after : List Action) (stood stands : Rows → Type 0) → asked ≡ a.Pull → old.stage ≡ stage.Awaits asked
+    → ((told : Rows) → stood told → step ≡ steps (told ++ old.rows ∷ [])) → ((told : Rows) → stood told → stands (told ++ old.rows ∷ []))
+    → Makes (λ p. takes_step p step) old new before after
+    → MakesWith stood stands (λ p. follows config (job_by writes steps) p asked) old new before after
+pull_follows config writes steps step asked old new before after stood stands is at e s m =
+    subst (λ (x : Asked). MakesWith stood stands (λ p. follows config (job_by writes steps) p x) old new before after) (sym is)
+    (pull_makes config writes steps step old new before after stood stands (at ∙ ap (λ (x : Asked). stage.Awaits x) is) e s m)
+
+pub pull_stands : (asked : Asked) (new : Core) (rows : List Row) (stood stands : Rows → Type 0) → asked ≡ a.Pull → StandsAsked asked stood
+    → ((told : Rows) → stood told → stands (told ++ rows ∷ [])) → rows_fit rows ≡ true → StandsAt new.stage stands
+pull_stands asked new rows stood stands is h s f =
+    let k : StandsSomewhere stood = subst (λ (x : Asked). StandsAsked x stood) is h in
+    let all : list_all rows_fit (k.0 ++ rows ∷ []) ≡ true = list_all-append rows_fit k.0 (rows ∷ []) ∙ rw (k.2, f) refl in
+    stands_some new.stage stands (k.0 ++ rows ∷ [], s k.0 k.1, all)

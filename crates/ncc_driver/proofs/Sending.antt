@@ -27,11 +27,11 @@ last_fits address h = pair_on (codes "routing") (v.Dict (routing address)) [] 31
 hello_fits : (auth : Auth) (address : List ℕ) → auth_fits auth ≡ true → fits (v.Text address) ≡ true
     → fits_request (hello auth address) ≡ true
 hello_fits Nobody address a h =
-    let last = (codes "routing", v.Dict (routing address)) ∷ [] in
+    let last : Pairs = (codes "routing", v.Dict (routing address)) ∷ [] in
     dict_by (text_at (codes "user_agent") (codes "ncc/1") ∷ last) 31 refl
     (text_on (codes "user_agent") (codes "ncc/1") last 31 refl (literal (codes "ncc/1") refl) (last_fits address h)) refl
 hello_fits (Basic user password) address a h =
-    let last = (codes "routing", v.Dict (routing address)) ∷ [] in
+    let last : Pairs = (codes "routing", v.Dict (routing address)) ∷ [] in
     let u : fits (v.Text user) ≡ true = grind arith in
     let p : fits (v.Text password) ≡ true = grind arith in
     let one = text_on (codes "credentials") password last 31 refl (text_alone password p) (last_fits address h) in
