@@ -20,7 +20,7 @@ use Rattle.ncc_driver.specs.Talk.{StandsSomewhere, StandsAsked, StandsAt}
 use Rattle.ncc_driver.specs.Attempts.{follows, follows_hello, takes_step}
 
 -- rows that a work stands behind
-abbrev Rows : Type 0
+abbrev pub Rows : Type 0
 Rows = List (List Row)
 
 -- ---- stages

@@ -266,7 +266,7 @@ hello_kept : (writes : Bool) (p : Place) (leg : Leg) → Kept p.core → Kept (f
 hello_kept writes p Routing k = stage_kept p.core (stage.Awaits a.Route) k
 hello_kept writes p Working k = stage_kept p.core (stage.Awaits a.Begin) k
 
-follows_kept : (config : SessionConfig) (job : Job) (p : Place) (asked : Asked) → Kept p.core → Kept (follows config job p asked).place.core
+pub follows_kept : (config : SessionConfig) (job : Job) (p : Place) (asked : Asked) → Kept p.core → Kept (follows config job p asked).place.core
 follows_kept config job p (a.Shake leg) k = stage_kept p.core (stage.Awaits (a.Hello leg)) k
 follows_kept config job p (a.Hello leg) k = hello_kept job.writes p leg k
 follows_kept config job p a.Begin k = step_kept _ (job.steps []) k

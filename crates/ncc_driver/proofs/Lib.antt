@@ -6,5 +6,6 @@ pub mod Kept
 pub mod Picking
 pub mod Joining
 pub mod Following
+pub mod Behind
 pub mod TableParts
 pub mod ToldFits
