@@ -7,5 +7,6 @@ pub mod Picking
 pub mod Joining
 pub mod Following
 pub mod Behind
+pub mod Moving
 pub mod TableParts
 pub mod ToldFits
