@@ -149,6 +149,9 @@ keeps_behind config job now p asked number rows TooLong new line came taken e k 
 
 -- ---- one item after another
 
+true_is_not : true ≡ false → ⊥
+true_is_not e = cc
+
 pub hears_not : (config : SessionConfig) (job : Job) (now : ℕ) (stands : Rows → Type 0) (core : Core) (line : Line) (q : List Action)
     → Hears config job now stands stands core line q core line q true
 hears_not config job now stands core line q told came taken b k = record {
@@ -192,7 +195,7 @@ hears_one config job now asked number item found stood stands core new line new_
           ∙ ap (λ (u : Turned). behind u.actions (hearing config job now (record { place = u.place; taken = taken + 1 }) came)) same_number
           ∙ ap (λ (x : Place). behind t.actions (hearing config job now (record { place = x; taken = taken + 1 }) came)) there;
       out_is = r.1;
-      still = λ e. absurd (cc);
+      still = λ e. absurd (true_is_not e);
     }
 
 pub hears_on : (config : SessionConfig) (job : Job) (now : ℕ) (one two three : Rows → Type 0) (c d e : Core) (lc ld le : Line)
@@ -252,14 +255,6 @@ awaits_is stage.Rests e = let f : false ≡ true = e in absurd (cc)
 awaits_is stage.Begun e = let f : false ≡ true = e in absurd (cc)
 awaits_is (stage.Joins leg) e = let f : false ≡ true = e in absurd (cc)
 awaits_is stage.Sleeps e = let f : false ≡ true = e in absurd (cc)
-
-no_more : (w : List Action) (q : List Action) → length (q ++ w) ≡ length q → w ≡ []
-no_more [] q e = refl
-no_more (x ∷ w) q e = absurd (omega (arith, length-append q (x ∷ w)))
-
-some_more : (w : List Action) → w ≢ [] → or_more w ≡ w
-some_more [] n = absurd (n refl)
-some_more (x ∷ w) n = refl
 
 -- what was put behind the actions, where nothing was written
 abbrev pub OrMore : List Action → List Action → List Action → Type 0
