@@ -8,5 +8,7 @@ pub mod Joining
 pub mod Following
 pub mod Behind
 pub mod Moving
+pub mod Stepping
+pub mod Talking
 pub mod TableParts
 pub mod ToldFits

@@ -260,6 +260,13 @@ awaits_is stage.Sleeps e = let f : false ≡ true = e in absurd (cc)
 abbrev pub OrMore : List Action → List Action → List Action → Type 0
 OrMore held written after = (length written ≡ length held → after ≡ written ++ Receive ∷ []) × ((length written ≡ length held → ⊥) → after ≡ written)
 
+pub or_more_none : (held written after : List Action) → length written ≡ length held → after ≡ written ++ Receive ∷ []
+    → OrMore held written after
+or_more_none held written after e h = (λ _. h, λ n. absurd (n e))
+
+pub or_more_some : (held written : List Action) → (length written ≡ length held → ⊥) → OrMore held written written
+or_more_some held written n = (λ e. absurd (n e), λ _. refl)
+
 more_is : (held w written after : List Action) → written ≡ held ++ w → OrMore held written after → after ≡ held ++ or_more w
 more_is held [] written after e h =
     let same : written ≡ held = e ∙ append-nil held in

@@ -149,7 +149,7 @@ impl Session {
             work,
             &mut self.core,
             &mut self.link,
-            input,
+            &input,
             now,
             &mut self.queue,
         ) {

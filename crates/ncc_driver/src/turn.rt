@@ -46,14 +46,14 @@ pub fn turn<W: Work>(
     work: &mut W,
     core: &mut Core,
     link: &mut Link,
-    input: Input,
+    input: &Input,
     now: u64,
     queue: &mut Actions,
 ) -> Result<(), Memory>
     requires keeps { IsTrue (core_keeps core.old) }
     requires allowed { IsTrue (config_fits config.now) }
     requires stands { StandsAt core.old.stage (W.stands work.old) }
-    ensures ok { OnOk result (Moves config.now (job_by (W.writing work.old) (W.steps work.old)) now input
+    ensures ok { OnOk result (Moves config.now (job_by (W.writing work.old) (W.steps work.old)) now input.now
         (W.stands work.old) (W.stands work.new) core.old link.old queue.old.items core.new link.new queue.new.items) }
     ensures keeps { OnOk result (IsTrue (core_keeps core.new)) }
     ensures stands { OnOk result (StandsAt core.new.stage (W.stands work.new)) }
