@@ -13,6 +13,10 @@ use Rattle.ncc_driver.specs.State.{Place, BehindAt, new_core}
 use Rattle.ncc_driver.specs.Session.{State, Ran, Moved, Begun, new_state, same, on, begins, ahead, told_all, works_all, session, acts, told_in}
 use Rattle.ncc_driver.specs.Talk.{Held, KeepsAt, Stands, Broke, begun, grown, Begins, Tells, TellBreaks, StaysWith}
 use Rattle.ncc_driver.specs.Hearing.{Moves}
+use Rattle.ncc_driver.specs.Config.{config_fits}
+use Rattle.ncc_driver.specs.Keeping.{core_keeps}
+use Rattle.ncc_driver.specs.Spelling.{literal_alone}
+use Rattle.ncc_driver.proofs.Kept.{Kept, keeps_by, no_rows, left, right}
 use Rattle.ncc_driver.proofs.Following.{Rows}
 
 -- ---- runs that go on
@@ -94,7 +98,7 @@ made_new config core line queue e q = record {
   out_is = sym q;
 }
 
-pub work_begins : (held : Held) (job : Job) (now : ℕ)
+work_begins : (held : Held) (job : Job) (now : ℕ)
     → Begins held job now (record held { core = record held.core { stage = stage.Begun; began = now; attempts = 0; delay = 1000 } })
 unfolding begins
 work_begins held job now config works out k =
@@ -128,7 +132,7 @@ moved_by held job input now new line queue stood stands config works last out m 
     (r.state.place.core ≡ new) × (queue ≡ held.queue ++ r.actions) × KeepsAt new.stage line r.state.came r.state.taken
     × BehindAt new.stage stands r.state.place.told) at (m'' s.place.told s.came s.taken b k.line_is)
 
-pub tells : (held : Held) (job : Job) (input : Input) (now : ℕ) (new : Core) (line : Line) (queue : List Action)
+tells : (held : Held) (job : Job) (input : Input) (now : ℕ) (new : Core) (line : Line) (queue : List Action)
     (stood stands : Rows → Type 0) → Moves held.config job now input stood stands held.core held.line held.queue new line queue
     → Tells stood held job input now
     (record { spent = false; config = held.config; core = new; line = line; queue = queue })
@@ -146,7 +150,7 @@ tells held job input now new line queue stood stands m config works last out j k
           ∙ ap (λ (a : List Action). out ++ a) (sym g.1);
     }
 
-pub stays_with : (held : Held) (job : Job) (input : Input) (now : ℕ) (new : Core) (line : Line) (queue : List Action)
+stays_with : (held : Held) (job : Job) (input : Input) (now : ℕ) (new : Core) (line : Line) (queue : List Action)
     (stood stands : Rows → Type 0) → Moves held.config job now input stood stands held.core held.line held.queue new line queue
     → StaysWith stood stands held job input now
     (record { spent = false; config = held.config; core = new; line = line; queue = queue })
@@ -165,7 +169,44 @@ tell_breaks held job input now new s config works last out j k =
           ∙ append_assoc out held.queue o.actions;
     }
 
--- a spent session stands for no works
-pub spent_stands : (held : Held) (P : Type 0) (config : SessionConfig) (works : List Begun) (out : List Action) → held.spent ≡ true
-    → Stands held config works out → P
-spent_stands held P config works out s k = let f : true ≡ false = sym s ∙ k.fine in absurd (cc)
+-- ---- the same by the view of a session
+
+pub work_begins_as : (held was : Held) (job : Job) (now : ℕ) → held ≡ was
+    → Begins was job now (record held { core = record held.core { stage = stage.Begun; began = now; attempts = 0; delay = 1000 } })
+work_begins_as held was job now e =
+    subst (λ (h : Held). Begins h job now
+    (record held { core = record held.core { stage = stage.Begun; began = now; attempts = 0; delay = 1000 } })) e (work_begins held job now)
+
+pub tells_as : (held was : Held) (job : Job) (input : Input) (now : ℕ) (new : Core) (line : Line) (queue : List Action)
+    (stood stands : Rows → Type 0) → held ≡ was
+    → Moves held.config job now input stood stands held.core held.line held.queue new line queue
+    → Tells stood was job input now (record { spent = false; config = held.config; core = new; line = line; queue = queue })
+tells_as held was job input now new line queue stood stands e m =
+    subst (λ (h : Held). Tells stood h job input now (record { spent = false; config = held.config; core = new; line = line; queue = queue })) e
+    (tells held job input now new line queue stood stands m)
+
+pub stays_as : (held was : Held) (job : Job) (input : Input) (now : ℕ) (new : Core) (line : Line) (queue : List Action)
+    (stood stands : Rows → Type 0) → held ≡ was
+    → Moves held.config job now input stood stands held.core held.line held.queue new line queue
+    → StaysWith stood stands was job input now (record { spent = false; config = held.config; core = new; line = line; queue = queue })
+stays_as held was job input now new line queue stood stands e m =
+    subst (λ (h : Held). StaysWith stood stands h job input now
+    (record { spent = false; config = held.config; core = new; line = line; queue = queue })) e
+    (stays_with held job input now new line queue stood stands m)
+
+-- ---- a new session keeps what it has to
+
+pub new_keeps : (config : SessionConfig) (core : Core) → core ≡ new_core config → config_fits config ≡ true → core_keeps core ≡ true
+unfolding new_core
+new_keeps config core e f =
+    let four = left _ _ f in
+    let kept : Kept (new_core config) = record {
+      bookmarks = right _ _ four;
+      few = right _ _ (left _ _ (left _ _ four));
+      route = refl;
+      table = refl;
+      address = literal_alone [] refl;
+      rows = no_rows;
+      delay = refl;
+    } in
+    ap (λ (c : Core). core_keeps c) e ∙ keeps_by (new_core config) kept

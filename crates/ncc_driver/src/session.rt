@@ -92,18 +92,6 @@ impl Session {
         })
     }
 
-    // Marks the session as spent, until the call that does so has gone well.
-    fn spend(&mut self) -> Result<(), Memory>
-        ensures ok { OnOk result ((self.old.spent ≡ false) × (self.new ≡ record self.old { spent = true })) }
-        ensures err { OnErr result ((self.old.spent ≡ true) × (self.new ≡ self.old)) }
-    {
-        if self.spent {
-            return Err(AllocError);
-        }
-        self.spent = true;
-        Ok(())
-    }
-
     /// Begins a work at a moment in milliseconds. No work may run, and the moment is not less than in an earlier call. A spent session
     /// answers `Err`.
     pub fn begin_work<W: Work>(&mut self, work: &mut W, now: u64) -> Result<(), Memory>
@@ -142,7 +130,10 @@ impl Session {
         ensures err { OnErr result (TellBreaks self.old (job_by (W.writing work.old) (W.steps work.old)) input now self.new) }
         ensures spent { IsTrue self.old.spent → IsErr result × (self.new ≡ self.old) }
     {
-        self.spend()?;
+        if self.spent {
+            return Err(AllocError);
+        }
+        self.spent = true;
         match turn(
             self.alloc,
             &self.config,

@@ -1,0 +1,10 @@
+use Rattle.ncc_driver.proofs.Talking.{made_new, new_keeps}
+use Rattle.ncc_driver.proofs.session.Session.new.Goals as goal
+
+pub invariant_of-result : goal.invariant_of-result
+invariant_of-result c = (c.requires.fits, λ _. new_keeps c.args.config c.in_ok-core.core c.in_ok-core.ensures c.requires.fits)
+
+pub returns : goal.returns
+returns c = record {
+  made = made_new c.args.config c.in_ok-core.core c.in_ok-link.link c.new-2.result.items c.in_ok-core.ensures c.new-2.ensures.items;
+}
