@@ -287,7 +287,7 @@ bytes_move config job now piece stood stands core new line mid new_line before w
     let g = h told whole taken b fed in
     let there : Listening = listening_of new g.told g.taken in
     let end : hearing config job now (listening_of core told taken) whole
-        ≡ behind g.written (still there (drop g.taken (items_of whole)) []) =
+    ≡ behind g.written (still there (drop g.taken (items_of whole)) []) =
     g.same ∙ ap (behind g.written) (hears_rest config job now there whole (g.still refl)) in
     let ran : on config job now (state_of core told came taken) (i.Bytes piece) ≡ record {
       state = record { place = record { core = new; told = g.told }; came = whole; taken = g.taken };

@@ -28,7 +28,7 @@ reads_counter key = Run (codes "MERGE (n:Counter {k: $k}) RETURN n.v") (key_at k
 abbrev pub raises_counter : List ℕ → ℤ → Value → WorkStep
 raises_counter key by old =
     Run (codes "MATCH (n:Counter {k: $k}) SET n.v = $old + $d RETURN n.v")
-        (key_at key ∷ (codes "old", old) ∷ (codes "d", v.Int by) ∷ [])
+    (key_at key ∷ (codes "old", old) ∷ (codes "d", v.Int by) ∷ [])
 
 abbrev pub add_steps : List ℕ → ℤ → List (List Row) → WorkStep
 add_steps key by [] = reads_counter key

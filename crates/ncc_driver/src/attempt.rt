@@ -17,10 +17,10 @@ ghost use Rattle.ncc_bolt.specs.Writing.{fits_request};
 use crate::action::{Action, Last};
 use crate::answers::{Told, read_answer, shaken};
 use crate::config::SessionConfig;
-use crate::standing::{Asked, Core, Leg, Stage};
 use crate::ends::{fail, refute, retry, succeed};
 use crate::link::Item;
 use crate::requests::{Actions, ask, begin, close, hello, pull, put, route, run};
+use crate::standing::{Asked, Core, Leg, Stage};
 use crate::work::{Work, WorkStep};
 use ncc_bolt::Request;
 use ncc_pack::{Memory, Rows, Text, Value, Values};
@@ -28,12 +28,7 @@ use ncc_route::{Role, Table};
 use rand_core::utils::NextWord;
 use std::alloc::Global;
 
-fn connect(
-    core: &mut Core,
-    leg: Leg,
-    address: Text,
-    queue: &mut Actions,
-) -> Result<(), Memory>
+fn connect(core: &mut Core, leg: Leg, address: Text, queue: &mut Actions) -> Result<(), Memory>
     ensures ok { OnOk result (Makes (λ p. t.connects p p.core leg address) core.old core.new queue.old.items queue.new.items) }
 {
     core.address = address.copy()?;
@@ -62,12 +57,7 @@ fn role_of(writes: bool) -> Role
 }
 
 /// Connects to the server of the transaction: the next word picks it among the table's of the role.
-fn join_server(
-    writes: bool,
-    core: &mut Core,
-    now: u64,
-    queue: &mut Actions,
-) -> Result<(), Memory>
+fn join_server(writes: bool, core: &mut Core, now: u64, queue: &mut Actions) -> Result<(), Memory>
     requires keeps { IsTrue (core_keeps core.old) }
     ensures ok { OnOk result (Makes (λ p. t.joins_server writes p now) core.old core.new queue.old.items queue.new.items) }
 {
@@ -110,11 +100,7 @@ fn router(routers: &Values, connects: u64) -> Result<Option<Text>, Memory>
 }
 
 /// Connects to a router. They take turns, over all works of the session.
-fn join_router(
-    config: &SessionConfig,
-    core: &mut Core,
-    queue: &mut Actions,
-) -> Result<(), Memory>
+fn join_router(config: &SessionConfig, core: &mut Core, queue: &mut Actions) -> Result<(), Memory>
     requires keeps { IsTrue (core_keeps core.old) }
     requires allowed { IsTrue (config_fits config.now) }
     ensures ok { OnOk result (Makes (λ p. t.joins_router config.now p) core.old core.new queue.old.items queue.new.items) }
@@ -317,7 +303,7 @@ pub fn answer<W: Work>(
     requires stands { StandsAsked asked (W.stands work.old) }
     ensures ok { OnOk result (MakesWith (W.stands work.old) (W.stands work.new)
         (λ p. t.behind config.now (job_by (W.writing work.old) (W.steps work.old)) now p asked number
-            (told_by asked now core.old.rows item)) core.old core.new queue.old.items queue.new.items) }
+        (told_by asked now core.old.rows item)) core.old core.new queue.old.items queue.new.items) }
     ensures keeps { OnOk result (IsTrue (core_keeps core.new)) }
     ensures stands { OnOk result (StandsAt core.new.stage (W.stands work.new)) }
     ensures writing { W.writing work.new ≡ W.writing work.old }

@@ -6,8 +6,8 @@ ghost use Rattle.ncc_driver.specs.Ends.{IsNamed};
 ghost use Rattle.ncc_driver.specs.State.{Makes};
 
 use crate::action::{Action, Last, WorkDone, WorkError};
-use crate::standing::{Core, Stage};
 use crate::requests::{Actions, close, put};
+use crate::standing::{Core, Stage};
 use ncc_bookmark::{Bookmark, BookmarkError};
 use ncc_pack::{Memory, Text, Value, Values};
 use rand_core::utils::NextWord;

@@ -77,7 +77,16 @@ pub fn turn<W: Work>(
         },
         Stage::Awaits(_) => match input {
             Input::Bytes(bytes) => {
-                hear(alloc, config, work, core, link, bytes.as_slice(), now, queue)
+                hear(
+                    alloc,
+                    config,
+                    work,
+                    core,
+                    link,
+                    bytes.as_slice(),
+                    now,
+                    queue,
+                )
             }
             Input::Lost => lose(core, now, queue),
             _ => Ok(()),

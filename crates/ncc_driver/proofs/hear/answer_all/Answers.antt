@@ -28,13 +28,13 @@ returns-then-not-more-clause-ok g c =
 pub items-preserved : goal.items-preserved
 items-preserved g c = record {
   gone = hears_on c.args.config.now (job_by (g.W.Work.writing c.args.work.now) (g.W.Work.steps c.args.work.now)) c.args.now
-    (g.W.Work.stands c.args.work.now) (g.W.Work.stands c.items.work) (g.W.Work.stands c.answer_next.new.work) c.args.core.now c.items.core
-    c.answer_next.new.core c.args.link.now c.items.link c.answer_next.new.link c.args.queue.now.items c.items.queue.items
-    c.answer_next.new.queue.items true c.items.invariant.gone
-    (same_job c.args.config.now (g.W.Work.writing c.items.work) (g.W.Work.writing c.args.work.now) (g.W.Work.steps c.items.work)
-    (g.W.Work.steps c.args.work.now) c.args.now (g.W.Work.stands c.items.work) (g.W.Work.stands c.answer_next.new.work) c.items.core
-    c.answer_next.new.core c.items.link c.answer_next.new.link c.items.queue.items c.answer_next.new.queue.items c.in_ok-more.more true
-    c.items.invariant.writing c.items.invariant.steps c.if-not-more.false c.in_ok-more.ensures.ok);
+      (g.W.Work.stands c.args.work.now) (g.W.Work.stands c.items.work) (g.W.Work.stands c.answer_next.new.work) c.args.core.now c.items.core
+      c.answer_next.new.core c.args.link.now c.items.link c.answer_next.new.link c.args.queue.now.items c.items.queue.items
+      c.answer_next.new.queue.items true c.items.invariant.gone
+      (same_job c.args.config.now (g.W.Work.writing c.items.work) (g.W.Work.writing c.args.work.now) (g.W.Work.steps c.items.work)
+      (g.W.Work.steps c.args.work.now) c.args.now (g.W.Work.stands c.items.work) (g.W.Work.stands c.answer_next.new.work) c.items.core
+      c.answer_next.new.core c.items.link c.answer_next.new.link c.items.queue.items c.answer_next.new.queue.items c.in_ok-more.more true
+      c.items.invariant.writing c.items.invariant.steps c.if-not-more.false c.in_ok-more.ensures.ok);
   keeps = c.in_ok-more.ensures.keeps;
   stands = c.in_ok-more.ensures.stands;
   writing = c.in_ok-more.ensures.writing ∙ c.items.invariant.writing;
