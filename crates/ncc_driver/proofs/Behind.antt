@@ -14,7 +14,7 @@ use Rattle.ncc_driver.specs.declared.answers.Told.TheVariants as m
 use Rattle.ncc_driver.specs.Hearing.{awaits_more}
 use Rattle.ncc_driver.specs.Keeping.{core_keeps, told_fits}
 use Rattle.ncc_driver.specs.Work.{Row, Job, rows_fit}
-use Rattle.ncc_driver.specs.State.{Place, Turned, Makes, BehindAt, MakesWith}
+use Rattle.ncc_driver.specs.State.{Place, Makes, BehindAt, MakesWith}
 use Rattle.ncc_driver.specs.Talk.{StandsAsked, StandsAt}
 use Rattle.ncc_driver.specs.Attempts.{behind, follows, fails, refutes, succeeds, keeps_and_joins}
 use Rattle.ncc_driver.proofs.Kept.{Kept, kept_of, keeps_by, Quiet, behind_kept, follows_kept, fails_quiet, keeps_and_joins_quiet}

@@ -1,8 +1,7 @@
 -- What each turn keeps true of a session's core.
-use Rattle.std.proofs.Common.{◌≡◌, ◌⊎◌, inl, inr, ℕ, zero, suc, ◌<◌, ◌≤◌, ◌*◌, ◌%◌, min, Bool, true, false, ◌&&◌, List, [], ◌∷◌, ◌++◌, length, refl, sym, ap}
+use Rattle.std.proofs.Common.{◌≡◌, ℕ, zero, suc, ◌%◌, Bool, true, false, ◌&&◌, List, [], ◌∷◌, length, refl, sym}
 use Rattle.std.proofs.Common.{◌∙◌, subst, arith}
-use Rattle.std.specs.Prelude.{Option, Some, None, nat_le, if◌then◌else◌, Result, slice_get}
-use Rattle.std.specs.List.{list_all}
+use Rattle.std.specs.Prelude.{Option, Some, None, nat_le, if◌then◌else◌, slice_get}
 use Rattle.std.proofs.lemmas.Bool.{le-leb}
 use Rattle.ncc_pack.specs.declared.value.Value.{Value, roll-Value, out-Value, roll-out-Value}
 use Rattle.ncc_pack.specs.declared.value.Value.TheOpen.{Value-F}
@@ -11,7 +10,6 @@ use Rattle.ncc_pack.specs.declared.value.NodeValue.{NodeValue}
 use Rattle.ncc_pack.specs.Fits.{fits}
 use Rattle.ncc_route.specs.declared.table.Table.{Table}
 use Rattle.ncc_route.specs.declared.table.Role.{Role}
-use Rattle.ncc_route.specs.declared.table.Role.TheVariants.{Write, Read, Route}
 use Rattle.ncc_route.specs.Routing.{picked}
 use Rattle.ncc_driver.specs.declared.config.SessionConfig.{SessionConfig}
 use Rattle.ncc_driver.specs.declared.standing.Core.{Core}
@@ -30,12 +28,12 @@ use Rattle.ncc_driver.specs.Config.{text_has_spelling, texts_fit, config_fits}
 use Rattle.ncc_driver.specs.Keeping.{core_keeps, table_fits, addresses_fit, told_fits}
 use Rattle.ncc_driver.specs.Hearing.{awaits_more}
 use Rattle.ncc_driver.specs.Spelling.{list_within}
-use Rattle.ncc_driver.specs.Work.{Row, Job, rows_fit}
+use Rattle.ncc_driver.specs.Work.{Job, rows_fit}
 use Rattle.ncc_driver.specs.State.{Place, Turned}
-use Rattle.ncc_driver.specs.Attempts.{retries, finishes, sleeps, loses, fails_by, fails, succeeds, refutes, refuses, is_spent, is_transient, is_no_leader}
+use Rattle.ncc_driver.specs.Attempts.{retries, sleeps, loses, fails, succeeds, is_spent, is_transient, is_no_leader}
 use Rattle.ncc_driver.specs.Attempts.{drops_table, connects, joins, joins_server, joins_by, joins_router, role_of, addresses_in, or_else, drawn}
-use Rattle.ncc_driver.specs.Attempts.{opened, attempts, is_fresh, takes_step, follows, follows_hello, keeps_row, keeps_table, keeps_and_joins, behind}
-use Rattle.ncc_driver.specs.Attempts.{at_core, router_of, next_delay, longest}
+use Rattle.ncc_driver.specs.Attempts.{opened, attempts, is_fresh, takes_step, follows, follows_hello, keeps_table, keeps_and_joins, behind}
+use Rattle.ncc_driver.specs.Attempts.{at_core, router_of, next_delay}
 
 -- what a core keeps, fact by fact
 pub record Kept (core : Core) : Type 0 where

@@ -1,8 +1,8 @@
 -- What a session makes of what comes on a link, item by item.
-use Rattle.std.proofs.Common.{◌≡◌, ◌≢◌, ◌⊎◌, inl, inr, ℕ, suc, ◌+◌, ◌-◌, ◌<◌, ◌^◌, min, Bool, true, false, List, [], ◌∷◌, ◌++◌, length, drop, refl, sym, ap}
+use Rattle.std.proofs.Common.{◌≡◌, ◌≢◌, ◌⊎◌, inl, inr, ℕ, ◌+◌, ◌-◌, ◌<◌, ◌^◌, min, Bool, true, false, List, [], ◌∷◌, ◌++◌, length, drop, refl, sym, ap}
 use Rattle.std.proofs.Common.{◌∙◌, subst, arith, append_assoc, append-nil, length-append}
 use Rattle.std.specs.Prelude.{Option, Some, None}
-use Rattle.ncc_stream.specs.Stream.{IsLawful, Stand, behind, further, going, still}
+use Rattle.ncc_stream.specs.Stream.{IsLawful, behind, further, going, still}
 use Rattle.ncc_stream.proofs.Going.{going_none, going_some, behind_twice}
 use Rattle.ncc_driver.specs.declared.config.SessionConfig.{SessionConfig}
 use Rattle.ncc_driver.specs.declared.standing.Core.{Core}
@@ -24,7 +24,7 @@ use Rattle.ncc_driver.specs.State.{Place, Turned, BehindAt, MakesWith}
 use Rattle.ncc_driver.specs.Attempts.{behind as turn_behind}
 use Rattle.ncc_driver.specs.Session.{Listening, Standing, told_by, answered, takes, takes_by, items_of, Ran, on, on_input, or_more, heard}
 use Rattle.ncc_driver.specs.Talk.{Keeps, KeepsAt}
-use Rattle.ncc_driver.specs.Hearing.{FeedsLine, KeepsBehind, TakesItem, awaits_more, hearing, listening_of, IsStill, Gone, Hears, Moves, state_of}
+use Rattle.ncc_driver.specs.Hearing.{FeedsLine, KeepsBehind, TakesItem, awaits_more, hearing, listening_of, IsStill, Hears, Moves, state_of}
 use Rattle.ncc_driver.proofs.Following.{Rows}
 
 -- ---- the machine is lawful

@@ -1,6 +1,6 @@
 -- What a session makes of each input.
-use Rattle.std.proofs.Common.{◌≡◌, ◌≢◌, ℕ, Bool, true, false, List, [], ◌∷◌, ◌++◌, refl, sym, ap, subst, ◌∙◌, append-nil}
-use Rattle.std.specs.Prelude.{Option, Some, None, Result, Ok, Err, OnOk}
+use Rattle.std.proofs.Common.{◌≡◌, ◌≢◌, ℕ, Bool, true, false, List, [], ◌++◌, refl, sym, ap, subst, ◌∙◌, append-nil}
+use Rattle.std.specs.Prelude.{None, Result, Ok, Err, OnOk}
 use Rattle.ncc_driver.specs.declared.config.SessionConfig.{SessionConfig}
 use Rattle.ncc_driver.specs.declared.standing.Core.{Core}
 use Rattle.ncc_driver.specs.declared.standing.Leg.{Leg}
@@ -16,8 +16,8 @@ use Rattle.ncc_driver.specs.Config.{config_fits}
 use Rattle.ncc_driver.specs.Keeping.{core_keeps}
 use Rattle.ncc_driver.specs.Line.{Line}
 use Rattle.ncc_driver.specs.Requests.{shakes}
-use Rattle.ncc_driver.specs.Work.{Row, Job, job_by}
-use Rattle.ncc_driver.specs.State.{Place, Turned, Makes, MakesAnew, BehindAt}
+use Rattle.ncc_driver.specs.Work.{Job, job_by}
+use Rattle.ncc_driver.specs.State.{Place, Makes, MakesAnew, BehindAt}
 use Rattle.ncc_driver.specs.Attempts.{attempts, loses, drops_table}
 use Rattle.ncc_driver.specs.Session.{State, Ran, same, on_place, opens, on_input, on}
 use Rattle.ncc_driver.specs.Talk.{Keeps, KeepsAt, StandsAt}

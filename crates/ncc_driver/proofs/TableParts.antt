@@ -4,7 +4,7 @@ use Rattle.std.proofs.Common.{refl, sym, ap, ◌∙◌, subst, arith, append_ass
 use Rattle.std.specs.Prelude.{Option, Some, None, bytes_eq}
 use Rattle.std.proofs.Math.Seq.{drop-cons}
 use Rattle.std.proofs.lemmas.List.{take_all, drop_all}
-use Rattle.ncc_pack.specs.declared.value.Value.{Value, roll-Value, out-Value, out-roll-Value}
+use Rattle.ncc_pack.specs.declared.value.Value.{Value, out-Value, out-roll-Value}
 use Rattle.ncc_pack.specs.declared.value.Value.TheOpen.{Value-F}
 use Rattle.ncc_pack.specs.declared.value.Value.TheVariants as v
 use Rattle.ncc_driver.specs.Answers.{Served, server_in, one_more, servers_in, servers_at, list_in, addresses_of}

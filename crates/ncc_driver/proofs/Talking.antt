@@ -1,17 +1,15 @@
 -- Which works a session stands for behind each call.
-use Rattle.std.proofs.Common.{◌≡◌, ℕ, Bool, true, false, List, [], ◌∷◌, ◌++◌, refl, sym, ap, subst, ◌∙◌, append_assoc, append-nil}
-use Rattle.std.specs.Prelude.{Option, Some, None}
+use Rattle.std.proofs.Common.{◌≡◌, ℕ, true, false, List, [], ◌∷◌, ◌++◌, refl, sym, ap, subst, ◌∙◌, append_assoc, append-nil}
 use Rattle.ncc_driver.specs.declared.config.SessionConfig.{SessionConfig}
 use Rattle.ncc_driver.specs.declared.standing.Core.{Core}
-use Rattle.ncc_driver.specs.declared.standing.Stage.{Stage}
 use Rattle.ncc_driver.specs.declared.standing.Stage.TheVariants as stage
 use Rattle.ncc_driver.specs.declared.action.Action.{Action}
 use Rattle.ncc_driver.specs.declared.action.Input.{Input}
 use Rattle.ncc_driver.specs.Line.{Line}
-use Rattle.ncc_driver.specs.Work.{Row, Job}
+use Rattle.ncc_driver.specs.Work.{Job}
 use Rattle.ncc_driver.specs.State.{Place, BehindAt, new_core}
-use Rattle.ncc_driver.specs.Session.{State, Ran, Moved, Begun, new_state, same, on, begins, ahead, told_all, works_all, session, acts, told_in}
-use Rattle.ncc_driver.specs.Talk.{Held, KeepsAt, Stands, Broke, begun, grown, Begins, Tells, TellBreaks, StaysWith}
+use Rattle.ncc_driver.specs.Session.{State, Ran, Moved, Begun, new_state, same, on, begins, ahead, told_all, works_all, session, told_in}
+use Rattle.ncc_driver.specs.Talk.{Held, KeepsAt, Stands, begun, grown, Begins, Tells, TellBreaks, StaysWith}
 use Rattle.ncc_driver.specs.Hearing.{Moves}
 use Rattle.ncc_driver.specs.Config.{config_fits}
 use Rattle.ncc_driver.specs.Keeping.{core_keeps}

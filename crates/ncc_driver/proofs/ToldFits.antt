@@ -1,8 +1,7 @@
 -- What an answer tells fits.
-use Rattle.std.proofs.Common.{◌≡◌, ℕ, suc, ◌-◌, ◌<◌, Bool, true, false, ◌&&◌, List, [], ◌∷◌, ◌++◌, length, codes, refl, sym, ap, ◌∙◌, subst, arith}
+use Rattle.std.proofs.Common.{◌≡◌, ℕ, suc, ◌-◌, Bool, true, false, ◌&&◌, List, [], ◌∷◌, ◌++◌, length, codes, refl, sym, ap, ◌∙◌, subst, arith}
 use Rattle.std.specs.Prelude.{Option, Some, None, bytes_eq, nat_le, if◌then◌else◌}
 use Rattle.std.specs.List.{list_all}
-use Rattle.std.specs.Map.{lookup}
 use Rattle.std.proofs.lemmas.List.Folds.{list_all-append}
 use Rattle.ncc_pack.specs.declared.value.Value.{Value, roll-Value, out-Value, roll-out-Value}
 use Rattle.ncc_pack.specs.declared.value.Value.TheOpen.{Value-F}
@@ -11,7 +10,7 @@ use Rattle.ncc_pack.specs.declared.value.NodeValue.{NodeValue}
 use Rattle.ncc_pack.specs.Limits.{max_size}
 use Rattle.ncc_pack.specs.Keys.{distinct}
 use Rattle.ncc_pack.specs.Texts.{is_text, texts_alone}
-use Rattle.ncc_pack.specs.Fits.{Fit, fits, fits_text, fits_within}
+use Rattle.ncc_pack.specs.Fits.{Fit, fits, fits_within}
 use Rattle.ncc_pack.proofs.Loops.{fit_of}
 use Rattle.ncc_pack.proofs.Fitted.{spelled_fits}
 use Rattle.ncc_pack.proofs.Single.{fits_of_text}
@@ -21,17 +20,16 @@ use Rattle.ncc_bolt.specs.Messages as b
 use Rattle.ncc_bolt.specs.declared.message.Response.{Response}
 use Rattle.ncc_bolt.specs.declared.message.Response.TheVariants as s
 use Rattle.ncc_route.specs.declared.table.Table.{Table}
-use Rattle.ncc_driver.specs.declared.answers.Told.{Told}
 use Rattle.ncc_driver.specs.declared.answers.Told.TheVariants as m
 use Rattle.ncc_driver.specs.declared.standing.Asked.{Asked}
 use Rattle.ncc_driver.specs.declared.standing.Asked.TheVariants as a
 use Rattle.ncc_driver.specs.Config.{text_has_spelling, texts_fit}
 use Rattle.ncc_driver.specs.Keeping.{addresses_fit, told_fits}
-use Rattle.ncc_driver.specs.Spelling.{all_fit, list_within, dict_within, text_within}
+use Rattle.ncc_driver.specs.Spelling.{all_fit, list_within, dict_within}
 use Rattle.ncc_driver.specs.Work.{Row, rows_fit}
 use Rattle.ncc_driver.specs.Answers.{value_at, text_in, list_by, pairs_by, list_in, pairs_in, if_texts, texts_in, seconds_in, is_true}
 use Rattle.ncc_driver.specs.Answers.{Served, server_of, server_by, server_in, one_more, servers_in, addresses_of, table_by, table_of, servers_at}
-use Rattle.ncc_driver.specs.Answers.{table_by_pairs, table_in, told_table, told_bookmark, told_code, success_of, record_of}
+use Rattle.ncc_driver.specs.Answers.{table_by_pairs, table_in, told_table, told_bookmark, success_of, record_of}
 
 -- ---- values in dictionaries and lists
 

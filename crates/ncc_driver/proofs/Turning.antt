@@ -1,6 +1,6 @@
 -- What a failed attempt makes of a session, by whether too long has passed since its work began.
 use Rattle.std.proofs.Common.{◌≡◌, ℕ, true, false, List, [], ◌∷◌, ◌++◌, Ok, Err, ap, subst, ◌∙◌, append_assoc}
-use Rattle.std.specs.Prelude.{Option, Result}
+use Rattle.std.specs.Prelude.{Option}
 use Rattle.ncc_pack.specs.declared.value.Value.{Value}
 use Rattle.ncc_pack.specs.declared.value.Value.TheVariants as v
 use Rattle.ncc_driver.specs.declared.standing.Core.{Core}

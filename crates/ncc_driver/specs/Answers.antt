@@ -1,6 +1,6 @@
 -- What a server's message tells of the request whose answer is awaited (Bolt 4.4, "Messages").
-use Rattle.std.specs.Prelude.{ℕ, ◌*◌, ◌-◌, ◌^◌, pos, negsuc, min, Bool, true, false, if◌then◌else◌, List, [], ◌∷◌, ◌++◌, Option, Some, None, Ok, Err}
-use Rattle.std.specs.Prelude.{codes, bytes_eq, map, filter}
+use Rattle.std.specs.Prelude.{ℕ, ◌*◌, ◌-◌, ◌^◌, pos, min, Bool, false, if◌then◌else◌, List, [], ◌∷◌, ◌++◌, Option, Some, None, Ok, Err}
+use Rattle.std.specs.Prelude.{codes, bytes_eq}
 use Rattle.std.specs.Map.{lookup}
 use Rattle.ncc_pack.specs.declared.value.Value.{Value, out-Value}
 use Rattle.ncc_pack.specs.declared.value.Value.TheOpen.{Value-F}

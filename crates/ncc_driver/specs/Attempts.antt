@@ -1,7 +1,6 @@
 -- Attempts: whom a session connects to, what it does behind each answer, and what behind a failure.
-use Rattle.std.specs.Prelude.{ℕ, ◌+◌, ◌-◌, ◌*◌, ◌/◌, ◌%◌, ◌^◌, min, Bool, true, false, ◌||◌, nat_le, nat_lt, if◌then◌else◌, List, [], ◌∷◌, ◌++◌, length, take}
-use Rattle.std.specs.Prelude.{Option, Some, None, Result, Ok, Err, slice_get, codes, bytes_eq}
-use Rattle.rand_pcg.specs.Lcg.{Lcg}
+use Rattle.std.specs.Prelude.{ℕ, ◌+◌, ◌-◌, ◌*◌, ◌/◌, ◌%◌, ◌^◌, min, Bool, false, nat_le, nat_lt, if◌then◌else◌, List, [], ◌∷◌, ◌++◌, length, take}
+use Rattle.std.specs.Prelude.{Option, Some, None, Result, Ok, Err, codes, bytes_eq}
 use Rattle.rand_pcg.specs.Pcg.{pcg32}
 use Rattle.ncc_pack.specs.declared.value.Value.{Value}
 use Rattle.ncc_pack.specs.declared.value.Value.TheVariants as v
@@ -9,7 +8,7 @@ use Rattle.ncc_bookmark.specs.Point.{Point}
 use Rattle.ncc_bookmark.specs.Reading.{point_named}
 use Rattle.ncc_route.specs.declared.table.Table.{Table}
 use Rattle.ncc_route.specs.declared.table.Role.{Role}
-use Rattle.ncc_route.specs.declared.table.Role.TheVariants.{Write, Read, Route}
+use Rattle.ncc_route.specs.declared.table.Role.TheVariants.{Write, Read}
 use Rattle.ncc_route.specs.Routing.{ends, addresses, picked}
 use Rattle.ncc_driver.specs.declared.config.SessionConfig.{SessionConfig}
 use Rattle.ncc_driver.specs.declared.standing.Core.{Core}
@@ -29,7 +28,7 @@ use Rattle.ncc_driver.specs.declared.action.WorkError.TheVariants as e
 use Rattle.ncc_driver.specs.declared.work.WorkStep.{WorkStep}
 use Rattle.ncc_driver.specs.declared.work.WorkStep.TheVariants as w
 use Rattle.ncc_driver.specs.Work.{Row, Job}
-use Rattle.ncc_driver.specs.Requests.{asks, shakes, closes, hello, route, begin, run, pull, commit}
+use Rattle.ncc_driver.specs.Requests.{asks, closes, hello, route, begin, run, pull, commit}
 use Rattle.ncc_driver.specs.declared.answers.Told.{Told}
 use Rattle.ncc_driver.specs.declared.answers.Told.TheVariants as m
 use Rattle.ncc_driver.specs.State.{Place, Turned}

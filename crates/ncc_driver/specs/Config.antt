@@ -1,5 +1,5 @@
 -- Which configurations a session may be made of.
-use Rattle.std.specs.Prelude.{Bool, true, false, not, ◌&&◌, nat_le, List, [], length, ◌==◌}
+use Rattle.std.specs.Prelude.{Bool, true, false, not, ◌&&◌, nat_le, List, length, ◌==◌}
 use Rattle.std.specs.List.{list_all}
 use Rattle.ncc_pack.specs.declared.value.Value.{Value}
 use Rattle.ncc_pack.specs.declared.value.Value.TheVariants as v

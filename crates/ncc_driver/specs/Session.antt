@@ -3,7 +3,6 @@ use Rattle.std.specs.Prelude.{ℕ, ◌+◌, ◌-◌, ◌^◌, min, Bool, if◌th
 use Rattle.ncc_stream.specs.Stream.{Stand, Move, going}
 use Rattle.ncc_chunk.specs.Messages.{messages_of, is_too_long}
 use Rattle.ncc_driver.specs.declared.config.SessionConfig.{SessionConfig}
-use Rattle.ncc_driver.specs.declared.standing.Core.{Core}
 use Rattle.ncc_driver.specs.declared.standing.Leg.{Leg}
 use Rattle.ncc_driver.specs.declared.standing.Asked.{Asked}
 use Rattle.ncc_driver.specs.declared.standing.Asked.TheVariants as a

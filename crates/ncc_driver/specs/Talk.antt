@@ -1,7 +1,7 @@
 -- A session as its callers see it: which works and actions it stands for, and what each call makes of that.
-use Rattle.std.specs.Prelude.{◌≡◌, ℕ, ◌-◌, ◌^◌, min, Bool, true, false, not, List, [], ◌∷◌, ◌++◌, length, take, drop, IsTrue, Option, Some, None}
+use Rattle.std.specs.Prelude.{◌≡◌, ℕ, ◌-◌, ◌^◌, min, Bool, true, false, List, [], ◌∷◌, ◌++◌, length, take, drop, IsTrue}
 use Rattle.std.specs.List.{list_all}
-use Rattle.ncc_chunk.specs.Inflow.{Inflow, Stands as StandsFor}
+use Rattle.ncc_chunk.specs.Inflow.{Stands as StandsFor}
 use Rattle.ncc_driver.specs.declared.config.SessionConfig.{SessionConfig}
 use Rattle.ncc_driver.specs.declared.standing.Core.{Core}
 use Rattle.ncc_driver.specs.declared.standing.Asked.{Asked}
@@ -13,7 +13,7 @@ use Rattle.ncc_driver.specs.declared.action.Input.{Input}
 use Rattle.ncc_driver.specs.State.{BehindAt}
 use Rattle.ncc_driver.specs.Work.{Row, Job, rows_fit}
 use Rattle.ncc_driver.specs.Line.{Line}
-use Rattle.ncc_driver.specs.Session.{State, Ran, Begun, session, acts, told_in}
+use Rattle.ncc_driver.specs.Session.{Begun, session, acts, told_in}
 
 -- what a session keeps: no history
 pub record Held : Type 0 where

@@ -1,5 +1,5 @@
 -- Works: what they are told, and which rows and steps have a spelling.
-use Rattle.std.specs.Prelude.{ℕ, Bool, true, ◌&&◌, List, map}
+use Rattle.std.specs.Prelude.{Bool, true, ◌&&◌, List, map}
 use Rattle.ncc_pack.specs.declared.value.Value.{Value}
 use Rattle.ncc_pack.specs.declared.value.Value.TheVariants as v
 use Rattle.ncc_pack.specs.Fits.{fits}

@@ -1,4 +1,3 @@
-use Rattle.std.proofs.Common.{sym, ◌∙◌}
 use Rattle.ncc_driver.proofs.RowTexts.{row_alone, spelled_more, spelled_all}
 use Rattle.ncc_driver.proofs.rows.spelled.Goals as goal
 
