@@ -31,7 +31,8 @@ use Rattle.ncc_driver.specs.Spelling.{list_within}
 use Rattle.ncc_driver.specs.Work.{Job, rows_fit}
 use Rattle.ncc_driver.specs.State.{Place, Turned}
 use Rattle.ncc_driver.specs.Attempts.{retries, sleeps, loses, fails, succeeds, is_spent, is_transient, is_no_leader}
-use Rattle.ncc_driver.specs.Attempts.{drops_table, connects, joins, joins_server, joins_by, joins_router, role_of, addresses_in, or_else, drawn}
+use Rattle.ncc_driver.specs.Attempts.{drops_table, connects, joins, joins_server, joins_by, joins_router, role_of, addresses_in, or_else}
+use Rattle.ncc_driver.specs.Attempts.{drawn}
 use Rattle.ncc_driver.specs.Attempts.{opened, attempts, is_fresh, takes_step, follows, follows_hello, keeps_table, keeps_and_joins, behind}
 use Rattle.ncc_driver.specs.Attempts.{at_core, router_of, next_delay}
 
@@ -228,7 +229,8 @@ pub routers_fit : (config : SessionConfig) (route : List Value) → config_fits 
 routers_fit config [] h r = right _ _ (left _ _ (left _ _ h))
 routers_fit config (x ∷ xs) h r = r
 
-pub joins_router_kept : (config : SessionConfig) (p : Place) → config_fits config ≡ true → Kept p.core → Kept (joins_router config p).place.core
+pub joins_router_kept : (config : SessionConfig) (p : Place) → config_fits config ≡ true → Kept p.core
+    → Kept (joins_router config p).place.core
 joins_router_kept config p h k =
     joins_by_kept p _ (router_of config p.core) (picked_address _ _ (routers_fit config p.core.route h k.route)) (record {
       bookmarks = k.bookmarks;
@@ -264,7 +266,8 @@ hello_kept : (writes : Bool) (p : Place) (leg : Leg) → Kept p.core → Kept (f
 hello_kept writes p Routing k = stage_kept p.core (stage.Awaits a.Route) k
 hello_kept writes p Working k = stage_kept p.core (stage.Awaits a.Begin) k
 
-pub follows_kept : (config : SessionConfig) (job : Job) (p : Place) (asked : Asked) → Kept p.core → Kept (follows config job p asked).place.core
+pub follows_kept : (config : SessionConfig) (job : Job) (p : Place) (asked : Asked) → Kept p.core
+    → Kept (follows config job p asked).place.core
 follows_kept config job p (a.Shake leg) k = stage_kept p.core (stage.Awaits (a.Hello leg)) k
 follows_kept config job p (a.Hello leg) k = hello_kept job.writes p leg k
 follows_kept config job p a.Begin k = step_kept _ (job.steps []) k
