@@ -185,8 +185,13 @@ pub tells_as : (held was : Held) (job : Job) (input : Input) (now : ℕ) (new : 
     → Moves held.config job now input stood stands held.core held.line held.queue new line queue
     → Tells stood was job input now (record { spent = false; config = held.config; core = new; line = line; queue = queue })
 tells_as held was job input now new line queue stood stands e m =
-    subst (λ (h : Held). Tells stood h job input now (record { spent = false; config = held.config; core = new; line = line;
-    queue = queue })) e
+    subst (λ (h : Held). Tells stood h job input now (record {
+      spent = false;
+      config = held.config;
+      core = new;
+      line = line;
+      queue = queue;
+    })) e
     (tells held job input now new line queue stood stands m)
 
 pub stays_as : (held was : Held) (job : Job) (input : Input) (now : ℕ) (new : Core) (line : Line) (queue : List Action)
