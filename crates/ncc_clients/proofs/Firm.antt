@@ -16,7 +16,8 @@ use Rattle.ncc_pack.specs.Limits.{max_size}
 use Rattle.ncc_pack.specs.Spells.{Kind, texts, lists, dicts}
 use Rattle.ncc_pack.specs.Short.{head, wide_head, text, list, dict, concat, pairs, short, short_pair, short_node, short_step, node_step}
 use Rattle.ncc_pack.specs.Fits.{fits_within}
-use Rattle.ncc_pack.specs.Reading.{◌>>=◌, Read, Holders, text_at, key_at, items_at, pairs_at, value_with, list_of, dict_of, within, value_at}
+use Rattle.ncc_pack.specs.Reading.{◌>>=◌, Read, Holders, text_at, key_at, items_at, pairs_at, value_with, list_of, dict_of, within}
+use Rattle.ncc_pack.specs.Reading.{value_at}
 use Rattle.ncc_pack.proofs.Fields.{bind_ok, ok_is}
 use Rattle.ncc_pack.proofs.Texts.{text_whole}
 use Rattle.ncc_pack.proofs.Stops.{text_ok}

@@ -1,5 +1,6 @@
 -- The moves of a session one by one, and what all of them keep.
-use Rattle.std.proofs.Common.{◌≡◌, ℕ, zero, suc, ◌+◌, Bool, true, false, Option, Some, None, List, [], ◌∷◌, ◌++◌, length, refl, sym, ap, subst}
+use Rattle.std.proofs.Common.{◌≡◌, ℕ, zero, suc, ◌+◌, Bool, true, false, Option, Some, None, List, [], ◌∷◌, ◌++◌, length, refl, sym, ap}
+use Rattle.std.proofs.Common.{subst}
 use Rattle.std.proofs.Common.{◌∙◌, append_assoc, append-nil}
 use Rattle.std.specs.Prelude.{if◌then◌else◌}
 use Rattle.ncc_stream.specs.Stream.{Stand, Move, behind, still, run, going}
@@ -13,7 +14,8 @@ use Rattle.ncc_session.specs.declared.ask.Fact.{Fact}
 use Rattle.ncc_session.specs.Question.{Question, Output, wrote, fits}
 use Rattle.ncc_session.specs.Core.{Next, Doing, idle, opened, asks, Place}
 use Rattle.ncc_session.specs.Turns.{Turned, freed, goes, heard}
-use Rattle.ncc_session.specs.Session.{Input, shaken, Standing, on_shake, on_live, on_input, reads, hears, acts, goes_by, move, start, is_ended}
+use Rattle.ncc_session.specs.Session.{Input, shaken, Standing, on_shake, on_live, on_input, reads, hears, acts, goes_by, move, start}
+use Rattle.ncc_session.specs.Session.{is_ended}
 use Rattle.ncc_session.specs.Session.{question_in}
 use Rattle.ncc_session.proofs.Lawful.{lawful}
 
@@ -33,7 +35,8 @@ module _ {C E F W : Type 0} (move : Move C E F W) (Q : C → List E → List F �
   kept_at n c xs fs w (Some t) e ih h =
       let r = run move n t.core t.items t.facts in
       subst (Keeps w) (sym (at_some move n c xs fs t e))
-      (subst (Q r.core r.items r.facts) (append_assoc w t.written r.written) (ih t.core t.items t.facts (w ++ t.written) (each c xs fs w t e h)))
+      (subst (Q r.core r.items r.facts) (append_assoc w t.written r.written)
+      (ih t.core t.items t.facts (w ++ t.written) (each c xs fs w t e h)))
 
   kept_by : (n : ℕ) (c : C) (xs : List E) (fs : List F) (w : List W) → Q c xs fs w → Keeps w (run move n c xs fs)
   unfolding run
@@ -68,7 +71,8 @@ live_is : (config : ConnConfig) (p : Place) (s : ConnState) (i : Input) → is_e
 live_is config p (Ended why) i e = absurd (cc)
 live_is config p _ i e = refl
 
-ended_is : (config : ConnConfig) (p : Place) (s : ConnState) (i : Input) → is_ended s ≡ true → on_input config p s i ≡ goes p p.state p.doing []
+ended_is : (config : ConnConfig) (p : Place) (s : ConnState) (i : Input) → is_ended s ≡ true
+    → on_input config p s i ≡ goes p p.state p.doing []
 ended_is config p (Ended why) i e = refl
 ended_is config p _ i e = absurd (cc)
 

@@ -1,5 +1,6 @@
 -- The session of a client that asks for a routing table at most asks nothing else, and so tells no bookmark.
-use Rattle.std.proofs.Common.{◌≡◌, ◌⊎◌, inl, inr, ℕ, zero, suc, ◌<◌, Bool, true, false, List, [], ◌∷◌, ◌++◌, length, refl, sym, ap, subst, ◌∙◌, append-nil, arith}
+use Rattle.std.proofs.Common.{◌≡◌, ◌⊎◌, inl, inr, ℕ, zero, suc, ◌<◌, Bool, true, false, List, [], ◌∷◌, ◌++◌, length, refl, sym, ap, subst}
+use Rattle.std.proofs.Common.{◌∙◌, append-nil, arith}
 use Rattle.std.specs.Prelude.{if◌then◌else◌, slice_index_or, Option, Some, None, Ok, Err}
 use Rattle.std.specs.List.{AllByRecursion, Contains}
 use Rattle.ncc_pack.specs.declared.value.Value.{Value}

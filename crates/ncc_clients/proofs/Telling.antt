@@ -39,11 +39,15 @@ use Rattle.ncc_session.specs.Question.{Question, enter, run, leave, route, Row, 
 use Rattle.ncc_session.specs.Core.{Tx, Next, begins, runs, adds, leaves, routes, Doing, idle, opened, asks, Place}
 use Rattle.ncc_session.specs.Replies.{reply, success, failure_meta, hello_meta, more_meta, end_meta, table_meta}
 use Rattle.ncc_session.specs.Table.{turn_of}
-use Rattle.ncc_session.specs.Turns.{Turned, goes, freed, rests, fails, puts, refuses, without_steps, records, pulled, taken, left_in, are_left}
-use Rattle.ncc_session.specs.Turns.{kind_in, may_leave, ends_tx, ends_result, goes_on, pulls, pulls_wish, pulls_rows, runs_entered, answered, tx_in}
-use Rattle.ncc_session.specs.Turns.{with_rows, columns_meta, tells_columns, told_meta, tells_done, after_begin, after_enter, after_step, after_run}
+use Rattle.ncc_session.specs.Turns.{Turned, goes, freed, rests, fails, puts, refuses, without_steps, records, pulled, taken, left_in}
+use Rattle.ncc_session.specs.Turns.{are_left}
+use Rattle.ncc_session.specs.Turns.{kind_in, may_leave, ends_tx, ends_result, goes_on, pulls, pulls_wish, pulls_rows, runs_entered}
+use Rattle.ncc_session.specs.Turns.{answered, tx_in}
+use Rattle.ncc_session.specs.Turns.{with_rows, columns_meta, tells_columns, told_meta, tells_done, after_begin, after_enter, after_step}
+use Rattle.ncc_session.specs.Turns.{after_run}
 use Rattle.ncc_session.specs.Turns.{refusal_of, after_end, after_leave, after_route, heard}
-use Rattle.ncc_session.specs.Session.{Input, shaken, message, too_long, shaken_as, behind_shake, end_of, stream_inputs, stream_of, inputs_of}
+use Rattle.ncc_session.specs.Session.{Input, shaken, message, too_long, shaken_as, behind_shake, end_of, stream_inputs, stream_of}
+use Rattle.ncc_session.specs.Session.{inputs_of}
 use Rattle.ncc_session.specs.Session.{Standing, on_shake, counted, fault_at, on_live, ends, move, start, session}
 use Rattle.ncc_session.proofs.Holding.{replies_ask}
 use Rattle.ncc_session.proofs.Inputs.{none_of_none}
@@ -106,7 +110,8 @@ module _ (config : ConnConfig) (all : List Fact) where
     by_if false x y h k = k
 
     fail_good : (p : Place) (refusal : Refusal) → Good qs (fails p refusal)
-    fail_good p refusal = record { fine = (said (s.Failure (failure_meta refusal)) (failure_silent (failure_meta refusal)), tt); asking = tt }
+    fail_good p refusal =
+        record { fine = (said (s.Failure (failure_meta refusal)) (failure_silent (failure_meta refusal)), tt); asking = tt }
 
     refuse_good : (p : Place) (refusal : Refusal) → Good qs (refuses p refusal)
     refuse_good p refusal =
@@ -290,7 +295,8 @@ module _ (config : ConnConfig) (all : List Fact) where
     fine : AllByRecursion (Fine (questions_of w)) w
 
   goes_good : (w : List Output) (turn : Turned) → AllByRecursion (Fine (questions_of w)) w → Good (questions_of w) turn
-      → Asked turn.place.doing (questions_of (w ++ turn.written)) × AllByRecursion (Fine (questions_of (w ++ turn.written))) (w ++ turn.written)
+      → Asked turn.place.doing (questions_of (w ++ turn.written))
+      × AllByRecursion (Fine (questions_of (w ++ turn.written))) (w ++ turn.written)
   goes_good w turn h g =
       let join = questions_join w turn.written in
       let more = all_weaker (Fine (questions_of w)) (Fine (questions_of w ++ questions_of turn.written))

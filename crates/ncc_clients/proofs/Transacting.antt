@@ -1,5 +1,6 @@
 -- The session of a client that opens at most one transaction asks to enter at most once, and for the greatest place that BEGIN presents.
-use Rattle.std.proofs.Common.{◌≡◌, ◌⊎◌, inl, inr, ℕ, ◌+◌, Bool, true, false, List, [], ◌∷◌, ◌++◌, length, refl, sym, ap, subst, ◌∙◌, append-nil}
+use Rattle.std.proofs.Common.{◌≡◌, ◌⊎◌, inl, inr, ℕ, ◌+◌, Bool, true, false, List, [], ◌∷◌, ◌++◌, length, refl, sym, ap, subst, ◌∙◌}
+use Rattle.std.proofs.Common.{append-nil}
 use Rattle.std.specs.Prelude.{if◌then◌else◌, nat_lt, ◌==◌, Option, Some, None, Result, Ok, Err}
 use Rattle.std.specs.List.{AllByRecursion}
 use Rattle.ncc_bolt.specs.Fields.{Pairs}
@@ -12,7 +13,8 @@ use Rattle.ncc_store.specs.declared.call.Call.{Call}
 use Rattle.ncc_store.specs.Rows.{rows_len, max_bytes}
 use Rattle.ncc_session.specs.declared.config.ConnConfig.{ConnConfig}
 use Rattle.ncc_session.specs.declared.state.ConnState.{ConnState}
-use Rattle.ncc_session.specs.declared.state.ConnState.TheVariants.{Shaking, Connected, Ready, Streaming, TxReady, TxStreaming, Failed, Ended}
+use Rattle.ncc_session.specs.declared.state.ConnState.TheVariants.{Shaking, Connected, Ready, Streaming, TxReady, TxStreaming, Failed}
+use Rattle.ncc_session.specs.declared.state.ConnState.TheVariants.{Ended}
 use Rattle.ncc_session.specs.declared.refusal.Refusal.{Refusal}
 use Rattle.ncc_session.specs.declared.refusal.Refusal.TheVariants as r
 use Rattle.ncc_session.specs.declared.ask.Fact.{Fact}
@@ -26,9 +28,12 @@ use Rattle.ncc_session.specs.Question.{Question, enter, run, leave, leave_noop, 
 use Rattle.ncc_session.specs.Core.{Tx, Next, begins, runs, adds, leaves, routes, Doing, idle, opened, asks, Place}
 use Rattle.ncc_session.specs.Replies.{hello_meta}
 use Rattle.ncc_session.specs.Table.{turn_of}
-use Rattle.ncc_session.specs.Turns.{Turned, freed, rests, fails, puts, refuses, preceded, records, without_steps, new_tx, pulled, taken, left_in}
-use Rattle.ncc_session.specs.Turns.{are_left, may_leave, ends_tx, ends_step, ends_result, goes_on, pulls, pulls_rows, pulls_wish, checked_step, runs_step}
-use Rattle.ncc_session.specs.Turns.{begins_one, answered, with_rows, tells_columns, adds_rows, refusal_of, after_begin, after_step, after_end, heard}
+use Rattle.ncc_session.specs.Turns.{Turned, freed, rests, fails, puts, refuses, preceded, records, without_steps, new_tx, pulled, taken}
+use Rattle.ncc_session.specs.Turns.{left_in}
+use Rattle.ncc_session.specs.Turns.{are_left, may_leave, ends_tx, ends_step, ends_result, goes_on, pulls, pulls_rows, pulls_wish}
+use Rattle.ncc_session.specs.Turns.{checked_step, runs_step}
+use Rattle.ncc_session.specs.Turns.{begins_one, answered, with_rows, tells_columns, adds_rows, refusal_of, after_begin, after_step}
+use Rattle.ncc_session.specs.Turns.{after_end, heard}
 use Rattle.ncc_session.specs.Session.{counted, on_message, is_ended, question_in}
 use Rattle.ncc_session.specs.Transactions.{Presents, IsGreatest, Begins, beginning}
 use Rattle.ncc_session.proofs.Holding.{replies_ask}
@@ -108,7 +113,8 @@ module _ (config : ConnConfig) (extra : Pairs) where
   after_if true x y qs xs h k = h
   after_if false x y qs xs h k = k
 
-  fail_after : (p : Place) (refusal : Refusal) (qs : List Request) (xs : List Question) → AreSteps qs → Once xs → Goes (fails p refusal) qs xs
+  fail_after : (p : Place) (refusal : Refusal) (qs : List Request) (xs : List Question) → AreSteps qs → Once xs
+      → Goes (fails p refusal) qs xs
   fail_after p refusal qs xs h once = quiet (fails p refusal) qs xs refl (h, once)
 
   after_check : {A : Type 0} (p : Place) (x : Checked A) (go : A → Turned) (qs : List Request) (xs : List Question) → AreSteps qs → Once xs
@@ -169,8 +175,8 @@ module _ (config : ConnConfig) (extra : Pairs) where
         stage = (h, (begin_needs number given entrance reads e same, tt));
       })
 
-  at_ready : (number : ℕ) (m : Request) (qs : List Request) (xs : List Question) → request_at (short_request m) ≡ Ok m → AtRest idle (m ∷ qs) xs
-      → Goes (answered config (counted (at Ready idle number)) (turn_of Ready m)) qs xs
+  at_ready : (number : ℕ) (m : Request) (qs : List Request) (xs : List Question) → request_at (short_request m) ≡ Ok m
+      → AtRest idle (m ∷ qs) xs → Goes (answered config (counted (at Ready idle number)) (turn_of Ready m)) qs xs
   at_ready number (q.Begin given) qs xs reads (inl h) = begin_after number given qs xs reads h.0.0 h.0.1 h.1
   at_ready number q.Goodbye qs xs reads (inl h) = quiet _ qs xs refl (none_once xs h.1)
   at_ready number _ qs xs reads (inl h) = absurd h.0
@@ -252,7 +258,8 @@ module _ (config : ConnConfig) (extra : Pairs) where
       → Goes (answered config (counted (at TxReady (opened tx) number)) (turn_of TxReady m)) qs xs
   in_ready number tx (q.Run query params given) qs xs h entered =
       step_after (freed (counted (at TxReady (opened tx) number))) tx query params qs xs open_ready h entered
-  in_ready number tx (q.Pull given) qs xs h entered = fail_after (counted (at TxReady (opened tx) number)) r.OutOfPlace qs xs h (entered_once xs entered)
+  in_ready number tx (q.Pull given) qs xs h entered =
+      fail_after (counted (at TxReady (opened tx) number)) r.OutOfPlace qs xs h (entered_once xs entered)
   in_ready number tx q.Commit qs xs h entered = commit_after (freed (counted (at TxReady (opened tx) number))) tx qs xs open_ready h entered
   in_ready number tx q.Goodbye qs xs h entered = quiet _ qs xs refl (entered_once xs entered)
   in_ready number tx _ qs xs h entered = absurd h
@@ -306,8 +313,8 @@ module _ (config : ConnConfig) (extra : Pairs) where
       rows_after (at TxReady idle number) calls tx rows qs xs (quiet _ qs xs refl (h, entered)) h entered
   ready_rows number calls tx fact qs xs h entered = fail_after (at TxReady idle number) (refusal_of fact) qs xs h (entered_once xs entered)
 
-  streaming_rows : (number : ℕ) (calls : List Call) (tx : Tx) (fact : Fact) (qs : List Request) (xs : List Question) → AreSteps qs → Entered xs
-      → Goes (after_step (streams number) calls tx fact) qs xs
+  streaming_rows : (number : ℕ) (calls : List Call) (tx : Tx) (fact : Fact) (qs : List Request) (xs : List Question) → AreSteps qs
+      → Entered xs → Goes (after_step (streams number) calls tx fact) qs xs
   streaming_rows number calls tx (f.Rows place rows) qs xs h entered =
       rows_after (streams number) calls tx rows qs xs (quiet _ qs xs refl (h, entered)) h entered
   streaming_rows number calls tx fact qs xs h entered = fail_after (streams number) (refusal_of fact) qs xs h (entered_once xs entered)
@@ -323,20 +330,20 @@ module _ (config : ConnConfig) (extra : Pairs) where
   rest_fact number (enter need) (begins write) fact qs xs h = begun_after (at Ready idle number) write fact qs xs h.0 h.1
   rest_fact number _ _ fact qs xs h = absurd h
 
-  ready_fact : (number : ℕ) (x : Question) (n : Next) (fact : Fact) (qs : List Request) (xs : List Question) → InTx (asks x n) qs → Entered xs
-      → Goes (heard config (at TxReady idle number) x n fact) qs xs
+  ready_fact : (number : ℕ) (x : Question) (n : Next) (fact : Fact) (qs : List Request) (xs : List Question) → InTx (asks x n) qs
+      → Entered xs → Goes (heard config (at TxReady idle number) x n fact) qs xs
   ready_fact number (run calls) (adds tx) fact qs xs h entered = ready_rows number calls tx fact qs xs h entered
   ready_fact number (leave calls told) leaves fact qs xs h entered = ended_after (at TxReady idle number) calls fact qs xs h entered
   ready_fact number _ _ fact qs xs h entered = absurd h
 
-  streaming_fact : (number : ℕ) (x : Question) (n : Next) (fact : Fact) (qs : List Request) (xs : List Question) → InTx (asks x n) qs → Entered xs
-      → Goes (heard config (streams number) x n fact) qs xs
+  streaming_fact : (number : ℕ) (x : Question) (n : Next) (fact : Fact) (qs : List Request) (xs : List Question) → InTx (asks x n) qs
+      → Entered xs → Goes (heard config (streams number) x n fact) qs xs
   streaming_fact number (run calls) (adds tx) fact qs xs h entered = streaming_rows number calls tx fact qs xs h entered
   streaming_fact number (leave calls told) leaves fact qs xs h entered = ended_after (streams number) calls fact qs xs h entered
   streaming_fact number _ _ fact qs xs h entered = absurd h
 
-  on_fact : (s : ConnState) (number : ℕ) (x : Question) (n : Next) (fact : Fact) (qs : List Request) (xs : List Question) → is_ended s ≡ false
-      → Stage s (asks x n) qs xs → Goes (heard config (at s idle number) x n fact) qs xs
+  on_fact : (s : ConnState) (number : ℕ) (x : Question) (n : Next) (fact : Fact) (qs : List Request) (xs : List Question)
+      → is_ended s ≡ false → Stage s (asks x n) qs xs → Goes (heard config (at s idle number) x n fact) qs xs
   on_fact Ready number x n fact qs xs live h = rest_fact number x n fact qs xs h
   on_fact TxReady number x n fact qs xs live h = ready_fact number x n fact qs xs h.0 h.1
   on_fact TxStreaming number x n fact qs xs live h = streaming_fact number x n fact qs xs h.0 h.1

@@ -19,7 +19,8 @@ use Rattle.ncc_session.specs.Question.{Question, Output, wrote, fits}
 use Rattle.ncc_session.specs.Core.{Next, Doing, idle, asks, Place}
 use Rattle.ncc_session.specs.Table.{turn_of}
 use Rattle.ncc_session.specs.Turns.{Turned, freed, fails, answered, heard}
-use Rattle.ncc_session.specs.Session.{Input, shaken, Standing, counted, on_message, on_live, inputs_of, move, start, session, is_ended, question_in}
+use Rattle.ncc_session.specs.Session.{Input, shaken, Standing, counted, on_message, on_live, inputs_of, move, start, session, is_ended}
+use Rattle.ncc_session.specs.Session.{question_in}
 use Rattle.ncc_clients.specs.Transacting.{CanBeSent, Sent}
 use Rattle.ncc_clients.proofs.Streams.{arrives, Arrived, inputs_sent}
 use Rattle.ncc_clients.proofs.Moving.{Moved, drops, takes, hearkens, moved, all_keep, connected, chosen, starts, rests_at_start}

@@ -80,7 +80,7 @@ abbrev pub AsksElse : Question → Type 0
 AsksElse (enter need) = ⊥
 AsksElse _ = Unit {0}
 
--- Nothing is asked; or first to enter, which needs the greatest place that the dictionary presents, 0 where it presents none, and not again.
+-- Nothing is asked; or first to enter, and not again: what that needs is the greatest place that the dictionary presents, 0 for none.
 abbrev pub AsksOnce : ℕ → Pairs → List Question → Type 0
 AsksOnce cluster extra [] = Unit {0}
 AsksOnce cluster extra (enter need ∷ questions) =
