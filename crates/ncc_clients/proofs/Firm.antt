@@ -1,20 +1,18 @@
 -- What is read where the shortest spelling of a SUCCESS stands, whether its values fit or not: a dictionary of its own keys.
-use Rattle.std.proofs.Common.{◌≡◌, ℕ, suc, ◌+◌, ◌-◌, ◌<◌, ◌≤◌, ◌^◌, Bool, true, false, cond, List, [], ◌∷◌, ◌++◌, length, map, take, drop}
-use Rattle.std.proofs.Common.{Some, None, Result, Ok, Err, refl, sym, ap, ◌∙◌, append_assoc, append-nil, length-append, arith}
-use Rattle.std.specs.Prelude.{IsTrue, pos, codes, nat_lt, bytes_eq}
+use Rattle.std.proofs.Common.{◌≡◌, ℕ, suc, ◌-◌, ◌≤◌, cond, List, [], ◌∷◌, ◌++◌, length, map, take, drop}
+use Rattle.std.proofs.Common.{Ok, Err, refl, sym, ap, ◌∙◌, append_assoc, append-nil}
+use Rattle.std.specs.Prelude.{IsTrue, bytes_eq}
 use Rattle.std.specs.List.{AllByRecursion, list_any}
-use Rattle.std.specs.Map.{lookup}
 use Rattle.std.proofs.lemmas.List.{take_at, drop_at, length-map}
-use Rattle.ncc_pack.specs.declared.value.Value.{Value, fold-roll-Value, map-Value, roll-Value, out-Value, out-roll-Value}
+use Rattle.ncc_pack.specs.declared.value.Value.{Value, fold-roll-Value, out-Value, out-roll-Value}
 use Rattle.ncc_pack.specs.declared.value.Value.TheOpen.{Value-F}
 use Rattle.ncc_pack.specs.declared.value.Value.TheVariants as v
 use Rattle.ncc_pack.specs.declared.value.NodeValue.{NodeValue}
-use Rattle.ncc_pack.specs.declared.error.PackError.{PackError}
 use Rattle.ncc_pack.specs.declared.error.PackError.TheVariants.{RepeatedKey}
 use Rattle.ncc_pack.specs.declared.mark.Mark.TheVariants as k
 use Rattle.ncc_pack.specs.Limits.{max_size}
-use Rattle.ncc_pack.specs.Spells.{Kind, texts, lists, dicts}
-use Rattle.ncc_pack.specs.Short.{head, wide_head, text, list, dict, concat, pairs, short, short_pair, short_node, short_step, node_step}
+use Rattle.ncc_pack.specs.Spells.{texts, lists, dicts}
+use Rattle.ncc_pack.specs.Short.{head, text, list, dict, concat, pairs, short, short_pair, short_step, node_step}
 use Rattle.ncc_pack.specs.Fits.{fits_within}
 use Rattle.ncc_pack.specs.Reading.{◌>>=◌, Read, Holders, text_at, key_at, items_at, pairs_at, value_with, list_of, dict_of, within}
 use Rattle.ncc_pack.specs.Reading.{value_at}

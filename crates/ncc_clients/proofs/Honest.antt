@@ -1,23 +1,21 @@
 -- Which answers tell a bookmark, and which one.
-use Rattle.std.proofs.Common.{◌≡◌, ◌≢◌, ℕ, suc, ◌+◌, ◌-◌, ◌<◌, ◌≤◌, ◌^◌, Bool, true, false, cond, List, [], ◌∷◌, ◌++◌, length, map}
+use Rattle.std.proofs.Common.{◌≡◌, ℕ, suc, ◌+◌, ◌-◌, ◌<◌, ◌≤◌, Bool, true, false, cond, List, [], ◌∷◌, ◌++◌, length, map}
 use Rattle.std.proofs.Common.{Option, Some, None, Result, Ok, Err, refl, sym, ap, ◌∙◌, subst, length-append, arith}
-use Rattle.std.specs.Prelude.{IsTrue, pos, codes, nat_lt, bytes_eq, slice_get}
+use Rattle.std.specs.Prelude.{pos, codes, nat_lt, bytes_eq, slice_get}
 use Rattle.std.specs.List.{AllByRecursion}
 use Rattle.std.specs.Map.{lookup}
-use Rattle.ncc_pack.specs.declared.value.Value.{Value, out-Value}
-use Rattle.ncc_pack.specs.declared.value.Value.TheOpen.{Value-F}
+use Rattle.ncc_pack.specs.declared.value.Value.{Value}
 use Rattle.ncc_pack.specs.declared.value.Value.TheVariants as v
-use Rattle.ncc_pack.specs.declared.value.NodeValue.{NodeValue}
 use Rattle.ncc_pack.specs.declared.error.PackError.{PackError}
 use Rattle.ncc_pack.specs.Limits.{max_size}
-use Rattle.ncc_pack.specs.Spells.{Kind, texts, lists, dicts}
+use Rattle.ncc_pack.specs.Spells.{Kind, texts}
 use Rattle.ncc_pack.specs.Short.{head, wide_head, text, concat, pairs, short, short_pair}
-use Rattle.ncc_pack.specs.Fits.{fits, fits_text, fits_within}
+use Rattle.ncc_pack.specs.Fits.{fits, fits_text}
 use Rattle.ncc_pack.specs.Reading.{within, value_at}
 use Rattle.ncc_pack.proofs.Room.{text_length, list_length, dict_length}
-use Rattle.ncc_bolt.specs.Fields.{Kind as FieldKind, dictionary, Held, Pairs}
-use Rattle.ncc_bolt.specs.Reading.{◌>>=◌, as_message, spelled_at, field_at, ended, head_at, response_at}
-use Rattle.ncc_bolt.specs.Writing.{short_response, fits_response}
+use Rattle.ncc_bolt.specs.Fields.{dictionary, Pairs}
+use Rattle.ncc_bolt.specs.Reading.{as_message, spelled_at, field_at, ended, head_at, response_at}
+use Rattle.ncc_bolt.specs.Writing.{short_response}
 use Rattle.ncc_bolt.specs.declared.error.MessageError.{MessageError}
 use Rattle.ncc_bolt.specs.declared.message.Response.{Response}
 use Rattle.ncc_bolt.specs.declared.message.Response.TheVariants as s
@@ -32,10 +30,8 @@ use Rattle.ncc_cypher.specs.Columns.{columns}
 use Rattle.ncc_cypher.proofs.Exact.{spelled}
 use Rattle.ncc_route.specs.declared.members.Members.{Members}
 use Rattle.ncc_store.specs.declared.call.Call.{Call}
-use Rattle.ncc_session.specs.declared.refusal.Refusal.{Refusal}
 use Rattle.ncc_session.specs.Checks.{under}
-use Rattle.ncc_session.specs.Question.{statement_of}
-use Rattle.ncc_session.specs.Replies.{text_at, number_at, failure_meta, hello_meta, run_meta, step_meta, more_meta, kind_of, end_meta}
+use Rattle.ncc_session.specs.Replies.{text_at, number_at, hello_meta, run_meta, step_meta, more_meta, kind_of, end_meta}
 use Rattle.ncc_session.specs.Replies.{done_meta, commit_meta, table_meta, writing_kind}
 use Rattle.ncc_session.specs.Turns.{kind_in, columns_in}
 use Rattle.ncc_session.proofs.Spellable.{text_within, number_within, literal, kind_of_tail, done_fits, commit_fits}
@@ -52,9 +48,6 @@ as_ok (Err d) y e = absurd (cc)
 ended_ok : {A : Type 0} (total : ℕ) (x y : A) (rest : List ℕ) → ended total x rest ≡ Ok y → x ≡ y
 ended_ok total x y [] e = ok_is x y e
 ended_ok total x y (b ∷ rest) e = absurd (cc)
-
-abbrev as_success : Pairs → Response
-as_success meta = s.Success meta
 
 abbrev response_ok : Response → Result Response MessageError
 response_ok m = Ok m
@@ -108,9 +101,6 @@ silent_by meta few none firm text le t =
     absurd (cc)
 
 -- ---- answers that tell none
-
-not_success : (m : Response) (meta : Pairs) → ((a : Pairs) → m ≢ s.Success a) → response_ok m ≡ Ok (s.Success meta) → ⊥
-not_success m meta h e = h meta (ok_is m (s.Success meta) e)
 
 failure_is : (meta found : Pairs) → response_at (short_response (s.Failure meta)) ≡ Ok (s.Success found) → ⊥
 unfolding head_at

@@ -5,16 +5,15 @@ use Rattle.std.proofs.Common.{◌∙◌, append_assoc, append-nil}
 use Rattle.std.specs.Prelude.{if◌then◌else◌}
 use Rattle.ncc_stream.specs.Stream.{Stand, Move, behind, still, run, going}
 use Rattle.ncc_stream.proofs.Going.{at_none, at_some, going_none, going_some}
-use Rattle.ncc_chunk.specs.declared.handshake.Shake.{Shake}
 use Rattle.ncc_chunk.specs.declared.handshake.Shake.TheVariants.{Chosen}
 use Rattle.ncc_session.specs.declared.config.ConnConfig.{ConnConfig}
 use Rattle.ncc_session.specs.declared.state.ConnState.{ConnState}
 use Rattle.ncc_session.specs.declared.state.ConnState.TheVariants.{Connected, Ended}
 use Rattle.ncc_session.specs.declared.ask.Fact.{Fact}
-use Rattle.ncc_session.specs.Question.{Question, Output, wrote, fits}
+use Rattle.ncc_session.specs.Question.{Question, wrote, fits}
 use Rattle.ncc_session.specs.Core.{Next, Doing, idle, opened, asks, Place}
 use Rattle.ncc_session.specs.Turns.{Turned, freed, goes, heard}
-use Rattle.ncc_session.specs.Session.{Input, shaken, Standing, on_shake, on_live, on_input, reads, hears, acts, goes_by, move, start}
+use Rattle.ncc_session.specs.Session.{Input, shaken, Standing, on_live, on_input, reads, hears, acts, goes_by, move, start}
 use Rattle.ncc_session.specs.Session.{is_ended}
 use Rattle.ncc_session.specs.Session.{question_in}
 use Rattle.ncc_session.proofs.Lawful.{lawful}

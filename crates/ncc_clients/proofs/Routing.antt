@@ -1,26 +1,23 @@
 -- The session of a client that asks for a routing table at most asks nothing else, and so tells no bookmark.
-use Rattle.std.proofs.Common.{◌≡◌, ◌⊎◌, inl, inr, ℕ, zero, suc, ◌<◌, Bool, true, false, List, [], ◌∷◌, ◌++◌, length, refl, sym, ap, subst}
+use Rattle.std.proofs.Common.{◌≡◌, inl, inr, ℕ, zero, suc, ◌<◌, Bool, true, false, List, [], ◌∷◌, ◌++◌, length, refl, sym, ap, subst}
 use Rattle.std.proofs.Common.{◌∙◌, append-nil, arith}
-use Rattle.std.specs.Prelude.{if◌then◌else◌, slice_index_or, Option, Some, None, Ok, Err}
-use Rattle.std.specs.List.{AllByRecursion, Contains}
+use Rattle.std.specs.Prelude.{if◌then◌else◌, slice_index_or, Some, None, Ok, Err}
+use Rattle.std.specs.List.{AllByRecursion}
 use Rattle.ncc_pack.specs.declared.value.Value.{Value}
 use Rattle.ncc_pack.specs.declared.value.Value.TheVariants as v
 use Rattle.ncc_bolt.specs.Fields.{Pairs}
-use Rattle.ncc_bolt.specs.Reading.{request_at}
-use Rattle.ncc_bolt.specs.Writing.{short_request}
 use Rattle.ncc_bolt.specs.declared.message.Request.{Request}
 use Rattle.ncc_bolt.specs.declared.message.Request.TheVariants as q
 use Rattle.ncc_store.specs.declared.call.Call.{Call}
 use Rattle.ncc_session.specs.declared.config.ConnConfig.{ConnConfig}
 use Rattle.ncc_session.specs.declared.state.ConnState.{ConnState}
 use Rattle.ncc_session.specs.declared.state.ConnState.TheVariants.{Connected, Ready, Failed, Ended}
-use Rattle.ncc_session.specs.declared.refusal.Refusal.{Refusal}
 use Rattle.ncc_session.specs.declared.refusal.Refusal.TheVariants as r
 use Rattle.ncc_session.specs.declared.ask.Fact.{Fact}
 use Rattle.ncc_session.specs.declared.ask.Fact.TheVariants as f
 use Rattle.ncc_session.specs.Checks.{Checked, is_welcome, need_of}
-use Rattle.ncc_session.specs.Question.{Question, leave, route, Row, Output, wrote, questions_of}
-use Rattle.ncc_session.specs.Core.{Next, routes, Doing, idle, opened, asks, Place}
+use Rattle.ncc_session.specs.Question.{Question, leave, route, Row, Output, questions_of}
+use Rattle.ncc_session.specs.Core.{Next, routes, Doing, idle, asks, Place}
 use Rattle.ncc_session.specs.Replies.{hello_meta}
 use Rattle.ncc_session.specs.Table.{turn_of}
 use Rattle.ncc_session.specs.Turns.{Turned, rests, fails, puts, refuses, asks_route, answered, refusal_of, after_route, heard}

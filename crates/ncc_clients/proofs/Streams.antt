@@ -1,15 +1,15 @@
 -- The messages of what was sent, of its front, and of answers of which some may be too long.
-use Rattle.std.proofs.Common.{◌≡◌, ◌≢◌, ℕ, zero, suc, ◌+◌, ◌<◌, ◌≤◌, Bool, true, false, List, [], ◌∷◌, ◌++◌, length, map, drop, inl, inr}
+use Rattle.std.proofs.Common.{◌≡◌, ◌≢◌, ℕ, zero, suc, ◌+◌, ◌<◌, ◌≤◌, Bool, true, false, List, [], ◌∷◌, ◌++◌, length, map, inl, inr}
 use Rattle.std.proofs.Common.{◌⊎◌}
 use Rattle.std.proofs.Common.{refl, sym, ap, ◌∙◌, subst, append_assoc, append-nil, length-append, arith}
 use Rattle.std.specs.List.{AllByRecursion, Contains, flat_map}
 use Rattle.std.proofs.lemmas.Bool.{cases_lt}
-use Rattle.std.proofs.lemmas.List.Elements.{Contains-append_cases, Contains-append_right}
+use Rattle.std.proofs.lemmas.List.Elements.{Contains-append_cases}
 use Rattle.ncc_chunk.specs.declared.handshake.Shake.{Shake}
 use Rattle.ncc_chunk.specs.declared.handshake.Shake.TheVariants.{More, Chosen, BadMagic, NoVersion}
 use Rattle.ncc_chunk.specs.Handshake.{answer_to, handshake_of}
 use Rattle.ncc_chunk.specs.Chunked.{chunks_of, chunked}
-use Rattle.ncc_chunk.specs.Chunks.{Chunks, none, chunk, size_of, limit, Framed, nothing, PastLimit, IsTooLongAfter}
+use Rattle.ncc_chunk.specs.Chunks.{Chunks, none, chunk, size_of, limit, Framed, nothing, PastLimit}
 use Rattle.ncc_chunk.specs.Messages.{messages_of, rest_of, is_too_long, parts_by, front_by}
 use Rattle.ncc_chunk.proofs.Framing.{framed_same, none_in_past}
 use Rattle.ncc_chunk.proofs.Pieces.{chunks_whole, reads_back}
@@ -18,7 +18,7 @@ use Rattle.ncc_chunk.proofs.Shaking.{same_where_settled}
 use Rattle.ncc_bolt.specs.Writing.{short_request}
 use Rattle.ncc_bolt.specs.declared.message.Request.{Request}
 use Rattle.ncc_bolt.specs.declared.message.Request.TheVariants as r
-use Rattle.ncc_session.specs.Session.{Input, shaken, message, shaken_as, behind_shake, end_of, stream_inputs, stream_of, inputs_of}
+use Rattle.ncc_session.specs.Session.{Input, shaken, message, shaken_as, end_of, stream_inputs, stream_of, inputs_of}
 use Rattle.ncc_session.proofs.Shaken.{more_none, chosen_stream}
 use Rattle.ncc_clients.specs.Transacting.{shake, CanBeSent, Sent}
 

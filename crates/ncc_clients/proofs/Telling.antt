@@ -1,7 +1,7 @@
 -- A bookmark that a session tells is that of a fact by which it was told that a transaction is done.
-use Rattle.std.proofs.Common.{◌≡◌, ◌≢◌, ◌⊎◌, inl, inr, ℕ, ◌+◌, ◌<◌, ◌≤◌, Bool, true, false, List, [], ◌∷◌, ◌++◌, length, map, drop}
+use Rattle.std.proofs.Common.{◌≡◌, inl, inr, ℕ, ◌+◌, ◌<◌, ◌≤◌, Bool, true, false, List, [], ◌∷◌, ◌++◌, length, map, drop}
 use Rattle.std.proofs.Common.{refl, sym, ap, subst, ◌∙◌, append_assoc, append-nil, arith}
-use Rattle.std.specs.Prelude.{if◌then◌else◌, nat_lt, Some, None, Result, Ok, Err}
+use Rattle.std.specs.Prelude.{if◌then◌else◌, nat_lt, Some, Result, Ok, Err}
 use Rattle.std.specs.List.{AllByRecursion, Contains, flat_map}
 use Rattle.std.proofs.lemmas.List.Elements.{Contains-append_left, Contains-append_right}
 use Rattle.ncc_bolt.specs.Fields.{Pairs}
@@ -20,11 +20,11 @@ use Rattle.ncc_chunk.specs.Handshake.{answer_to, handshake_of}
 use Rattle.ncc_chunk.specs.Messages.{messages_of, is_too_long}
 use Rattle.ncc_store.specs.declared.call.Call.{Call}
 use Rattle.ncc_store.specs.Rows.{rows_len, max_bytes}
-use Rattle.ncc_stream.specs.Stream.{behind, still, going}
+use Rattle.ncc_stream.specs.Stream.{behind, going}
 use Rattle.ncc_stream.proofs.Going.{going_none, going_some}
 use Rattle.ncc_session.specs.declared.config.ConnConfig.{ConnConfig}
 use Rattle.ncc_session.specs.declared.state.ConnState.{ConnState}
-use Rattle.ncc_session.specs.declared.state.ConnState.TheVariants.{Ready, Streaming, Failed, Ended}
+use Rattle.ncc_session.specs.declared.state.ConnState.TheVariants.{Ready, Streaming, Ended}
 use Rattle.ncc_session.specs.declared.state.ConnStop.TheVariants as stop
 use Rattle.ncc_session.specs.declared.refusal.Refusal.{Refusal}
 use Rattle.ncc_session.specs.declared.refusal.Refusal.TheVariants as r
@@ -35,18 +35,18 @@ use Rattle.ncc_session.specs.declared.table.Turn.TheVariants as t
 use Rattle.ncc_session.specs.declared.checks.Wish.{Wish}
 use Rattle.ncc_session.specs.declared.checks.Entrance.{Entrance}
 use Rattle.ncc_session.specs.Checks.{Checked, is_welcome}
-use Rattle.ncc_session.specs.Question.{Question, enter, run, leave, route, Row, Output, wrote, asked, bytes_of, questions_of, fits}
+use Rattle.ncc_session.specs.Question.{Question, enter, run, leave, route, Row, Output, wrote, asked, bytes_of, questions_of}
 use Rattle.ncc_session.specs.Core.{Tx, Next, begins, runs, adds, leaves, routes, Doing, idle, opened, asks, Place}
 use Rattle.ncc_session.specs.Replies.{reply, success, failure_meta, hello_meta, more_meta, end_meta, table_meta}
 use Rattle.ncc_session.specs.Table.{turn_of}
 use Rattle.ncc_session.specs.Turns.{Turned, goes, freed, rests, fails, puts, refuses, without_steps, records, pulled, taken, left_in}
 use Rattle.ncc_session.specs.Turns.{are_left}
-use Rattle.ncc_session.specs.Turns.{kind_in, may_leave, ends_tx, ends_result, goes_on, pulls, pulls_wish, pulls_rows, runs_entered}
+use Rattle.ncc_session.specs.Turns.{kind_in, may_leave, ends_tx, ends_result, goes_on, pulls_wish, pulls_rows, runs_entered}
 use Rattle.ncc_session.specs.Turns.{answered, tx_in}
 use Rattle.ncc_session.specs.Turns.{with_rows, columns_meta, tells_columns, told_meta, tells_done, after_begin, after_enter, after_step}
 use Rattle.ncc_session.specs.Turns.{after_run}
 use Rattle.ncc_session.specs.Turns.{refusal_of, after_end, after_leave, after_route, heard}
-use Rattle.ncc_session.specs.Session.{Input, shaken, message, too_long, shaken_as, behind_shake, end_of, stream_inputs, stream_of}
+use Rattle.ncc_session.specs.Session.{Input, shaken, message, too_long, shaken_as, behind_shake, end_of, stream_inputs}
 use Rattle.ncc_session.specs.Session.{inputs_of}
 use Rattle.ncc_session.specs.Session.{Standing, on_shake, counted, fault_at, on_live, ends, move, start, session}
 use Rattle.ncc_session.proofs.Holding.{replies_ask}
@@ -60,7 +60,7 @@ use Rattle.ncc_clients.proofs.Lists.{all_weaker, all_append}
 use Rattle.ncc_clients.proofs.Honest.{IsSilent, Tells, failure_silent, row_silent, ignored_silent, none_silent, hello_silent, more_silent}
 use Rattle.ncc_clients.proofs.Honest.{end_silent, table_silent, run_silent, step_silent, kind_in_fits, commit_tells, done_tells}
 use Rattle.ncc_clients.proofs.Streams.{each_message, no_messages}
-use Rattle.ncc_clients.proofs.Moving.{Moved, drops, takes, hearkens, moved, all_keep, stand, connected, chosen, starts, rests_at_start}
+use Rattle.ncc_clients.proofs.Moving.{Moved, drops, takes, hearkens, moved, all_keep, stand, connected, starts, rests_at_start}
 
 module _ (config : ConnConfig) (all : List Fact) where
   -- ---- what is kept of each output, where these questions were asked

@@ -1,8 +1,7 @@
 -- The session of a client that opens at most one transaction asks to enter at most once, and for the greatest place that BEGIN presents.
 use Rattle.std.proofs.Common.{◌≡◌, ◌⊎◌, inl, inr, ℕ, ◌+◌, Bool, true, false, List, [], ◌∷◌, ◌++◌, length, refl, sym, ap, subst, ◌∙◌}
 use Rattle.std.proofs.Common.{append-nil}
-use Rattle.std.specs.Prelude.{if◌then◌else◌, nat_lt, ◌==◌, Option, Some, None, Result, Ok, Err}
-use Rattle.std.specs.List.{AllByRecursion}
+use Rattle.std.specs.Prelude.{if◌then◌else◌, nat_lt, ◌==◌, Some, None, Result, Ok, Err}
 use Rattle.ncc_bolt.specs.Fields.{Pairs}
 use Rattle.ncc_bolt.specs.Reading.{request_at}
 use Rattle.ncc_bolt.specs.Writing.{short_request}
@@ -13,29 +12,27 @@ use Rattle.ncc_store.specs.declared.call.Call.{Call}
 use Rattle.ncc_store.specs.Rows.{rows_len, max_bytes}
 use Rattle.ncc_session.specs.declared.config.ConnConfig.{ConnConfig}
 use Rattle.ncc_session.specs.declared.state.ConnState.{ConnState}
-use Rattle.ncc_session.specs.declared.state.ConnState.TheVariants.{Shaking, Connected, Ready, Streaming, TxReady, TxStreaming, Failed}
+use Rattle.ncc_session.specs.declared.state.ConnState.TheVariants.{Connected, Ready, TxReady, TxStreaming, Failed}
 use Rattle.ncc_session.specs.declared.state.ConnState.TheVariants.{Ended}
 use Rattle.ncc_session.specs.declared.refusal.Refusal.{Refusal}
 use Rattle.ncc_session.specs.declared.refusal.Refusal.TheVariants as r
 use Rattle.ncc_session.specs.declared.ask.Fact.{Fact}
 use Rattle.ncc_session.specs.declared.ask.Fact.TheVariants as f
-use Rattle.ncc_session.specs.declared.table.Turn.{Turn}
-use Rattle.ncc_session.specs.declared.table.Turn.TheVariants as t
 use Rattle.ncc_session.specs.declared.checks.Wish.{Wish}
 use Rattle.ncc_session.specs.declared.checks.Entrance.{Entrance}
 use Rattle.ncc_session.specs.Checks.{Checked, is_welcome, entrance_of}
-use Rattle.ncc_session.specs.Question.{Question, enter, run, leave, leave_noop, route, Row, Output, wrote, asked, questions_of}
-use Rattle.ncc_session.specs.Core.{Tx, Next, begins, runs, adds, leaves, routes, Doing, idle, opened, asks, Place}
+use Rattle.ncc_session.specs.Question.{Question, enter, run, leave, Row, Output, questions_of}
+use Rattle.ncc_session.specs.Core.{Tx, Next, begins, adds, leaves, Doing, idle, opened, asks, Place}
 use Rattle.ncc_session.specs.Replies.{hello_meta}
 use Rattle.ncc_session.specs.Table.{turn_of}
-use Rattle.ncc_session.specs.Turns.{Turned, freed, rests, fails, puts, refuses, preceded, records, without_steps, new_tx, pulled, taken}
+use Rattle.ncc_session.specs.Turns.{Turned, freed, rests, fails, puts, refuses, preceded, records, without_steps, pulled, taken}
 use Rattle.ncc_session.specs.Turns.{left_in}
-use Rattle.ncc_session.specs.Turns.{are_left, may_leave, ends_tx, ends_step, ends_result, goes_on, pulls, pulls_rows, pulls_wish}
+use Rattle.ncc_session.specs.Turns.{are_left, may_leave, ends_tx, goes_on, pulls, pulls_wish}
 use Rattle.ncc_session.specs.Turns.{checked_step, runs_step}
 use Rattle.ncc_session.specs.Turns.{begins_one, answered, with_rows, tells_columns, adds_rows, refusal_of, after_begin, after_step}
 use Rattle.ncc_session.specs.Turns.{after_end, heard}
 use Rattle.ncc_session.specs.Session.{counted, on_message, is_ended, question_in}
-use Rattle.ncc_session.specs.Transactions.{Presents, IsGreatest, Begins, beginning}
+use Rattle.ncc_session.specs.Transactions.{Presents, IsGreatest, beginning}
 use Rattle.ncc_session.proofs.Holding.{replies_ask}
 use Rattle.ncc_session.proofs.Presenting.{needs_the_greatest}
 use Rattle.ncc_clients.specs.Transacting.{MayLeave, AreSteps, IsTransaction, LogsIn, AsksElse, AsksOnce, EntersOnce}

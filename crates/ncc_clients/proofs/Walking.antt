@@ -1,25 +1,22 @@
 -- A session that takes the requests of a client, one after another: what each of them keeps, its questions keep.
-use Rattle.std.proofs.Common.{◌≡◌, ◌⊎◌, inl, inr, ℕ, Bool, true, false, List, [], ◌∷◌, ◌++◌, length, map, refl, sym, ap, subst, ◌∙◌}
+use Rattle.std.proofs.Common.{◌≡◌, ◌⊎◌, inl, inr, ℕ, true, false, List, [], ◌∷◌, ◌++◌, map, refl, sym, ap, subst, ◌∙◌}
 use Rattle.std.proofs.Common.{append-nil}
-use Rattle.std.specs.Prelude.{if◌then◌else◌, Some, None, IsTrue, Result, Ok, Err}
+use Rattle.std.specs.Prelude.{None, Ok}
 use Rattle.std.specs.List.{AllByRecursion}
-use Rattle.ncc_stream.specs.Stream.{behind, going}
+use Rattle.ncc_stream.specs.Stream.{going}
 use Rattle.ncc_bolt.specs.Reading.{request_at}
 use Rattle.ncc_bolt.specs.Writing.{short_request}
 use Rattle.ncc_bolt.specs.declared.message.Request.{Request}
 use Rattle.ncc_bolt.proofs.Joined.{request_again, request_short}
-use Rattle.ncc_chunk.specs.declared.handshake.Shake.TheVariants.{Chosen}
 use Rattle.ncc_session.specs.declared.config.ConnConfig.{ConnConfig}
 use Rattle.ncc_session.specs.declared.state.ConnState.{ConnState}
 use Rattle.ncc_session.specs.declared.state.ConnState.TheVariants.{Connected}
-use Rattle.ncc_session.specs.declared.refusal.Refusal.{Refusal}
 use Rattle.ncc_session.specs.declared.ask.Fact.{Fact}
-use Rattle.ncc_session.specs.Checks.{Checked}
-use Rattle.ncc_session.specs.Question.{Question, Output, wrote, fits}
+use Rattle.ncc_session.specs.Question.{Question, Output, wrote}
 use Rattle.ncc_session.specs.Core.{Next, Doing, idle, asks, Place}
 use Rattle.ncc_session.specs.Table.{turn_of}
-use Rattle.ncc_session.specs.Turns.{Turned, freed, fails, answered, heard}
-use Rattle.ncc_session.specs.Session.{Input, shaken, Standing, counted, on_message, on_live, inputs_of, move, start, session, is_ended}
+use Rattle.ncc_session.specs.Turns.{Turned, freed, answered, heard}
+use Rattle.ncc_session.specs.Session.{Input, Standing, counted, on_message, on_live, move, start, session, is_ended}
 use Rattle.ncc_session.specs.Session.{question_in}
 use Rattle.ncc_clients.specs.Transacting.{CanBeSent, Sent}
 use Rattle.ncc_clients.proofs.Streams.{arrives, Arrived, inputs_sent}
