@@ -67,7 +67,8 @@ quiet_stands stage.Sleeps stands q = tt
 
 -- ---- behind HELLO, and behind the rows of a step
 
-hello_stands_by : (writes : Bool) (p : Place) (leg : Leg) (stands : Rows → Type 0) → StandsAt (follows_hello writes p leg).place.core.stage stands
+hello_stands_by : (writes : Bool) (p : Place) (leg : Leg) (stands : Rows → Type 0)
+    → StandsAt (follows_hello writes p leg).place.core.stage stands
 hello_stands_by writes p Routing stands = tt
 hello_stands_by writes p Working stands = tt
 

@@ -67,7 +67,8 @@ server_none writes now core new word words role found before after r w e f h tol
     ap (λ (x : Option Value). joins p now (role_of writes) (drawn core) x) o in
     let g = subst (λ (x : Lcg). MakesOf (retries (record { core = record core { words = x; table = None }; told = told }) now
     (last.NoServer role)) told new before after) (words_are word words core.words w) (h told) in
-    let g' = subst (λ (x : Role). MakesOf (retries (drops_table (at_core p (drawn core))) now (last.NoServer x)) told new before after) r g in
+    let g' = subst (λ (x : Role). MakesOf (retries (drops_table (at_core p (drawn core))) now (last.NoServer x)) told new before
+    after) r g in
     subst (λ (t : Turned). MakesOf t told new before after) (sym is) g'
 
 pub router_some : (config : SessionConfig) (core new : Core) (all : List Value) (found : Option (List ℕ)) (address : List ℕ) (count : ℕ)
@@ -127,5 +128,6 @@ pub table_kept : (writes : Bool) (now : ℕ) (core new : Core) (table : Table) (
     → Makes (λ p. joins_server writes p now) (record core { route = route; table = Some table }) new mid rs
     → Makes (λ p. keeps_and_joins writes now p table) core new qs rs
 table_kept writes now core new table route qs mid rs m r h =
-    let g = subst (λ (x : List Value). Makes (λ p. joins_server writes p now) (record core { route = x; table = Some table }) new mid rs) r h in
+    let g = subst (λ (x : List Value). Makes (λ p. joins_server writes p now) (record core { route = x; table = Some table }) new
+    mid rs) r h in
     closed (λ p. joins_server writes (keeps_table p table) now) core new qs mid rs m g

@@ -31,7 +31,8 @@ use Rattle.ncc_driver.specs.Spelling.{list_within}
 use Rattle.ncc_driver.specs.Work.{Job, rows_fit}
 use Rattle.ncc_driver.specs.State.{Place, Turned}
 use Rattle.ncc_driver.specs.Attempts.{retries, sleeps, loses, fails, succeeds, is_spent, is_transient, is_no_leader}
-use Rattle.ncc_driver.specs.Attempts.{drops_table, connects, joins, joins_server, joins_by, joins_router, role_of, addresses_in, or_else, drawn}
+use Rattle.ncc_driver.specs.Attempts.{drops_table, connects, joins, joins_server, joins_by, joins_router, role_of, addresses_in, or_else}
+use Rattle.ncc_driver.specs.Attempts.{drawn}
 use Rattle.ncc_driver.specs.Attempts.{opened, attempts, is_fresh, takes_step, follows, follows_hello, keeps_table, keeps_and_joins, behind}
 use Rattle.ncc_driver.specs.Attempts.{at_core, router_of, next_delay}
 
@@ -78,7 +79,7 @@ no_rows = list_within [] 32 (omega arith)
 
 -- ---- retries
 
-stage_kept : (core : Core) (s : Stage) → Kept core → Kept (record core { stage = s })
+pub stage_kept : (core : Core) (s : Stage) → Kept core → Kept (record core { stage = s })
 stage_kept core s k = record {
   bookmarks = k.bookmarks;
   few = k.few;
@@ -202,7 +203,7 @@ joins_by_kept p core None h k = k
 joins_by_kept p core (Some x) h k =
     subst (λ (y : Value). Kept (joins_by p core (Some y)).place.core) (sym h.1) (connects_kept p core Routing h.0 h.2 k)
 
-role_texts : (writes : Bool) (table : Option Table) → table_fits table ≡ true → texts_fit (addresses_in (role_of writes) table) ≡ true
+pub role_texts : (writes : Bool) (table : Option Table) → table_fits table ≡ true → texts_fit (addresses_in (role_of writes) table) ≡ true
 role_texts true None h = refl
 role_texts false None h = refl
 role_texts true (Some t) h = left _ _ (left _ _ h)
@@ -228,7 +229,8 @@ pub routers_fit : (config : SessionConfig) (route : List Value) → config_fits 
 routers_fit config [] h r = right _ _ (left _ _ (left _ _ h))
 routers_fit config (x ∷ xs) h r = r
 
-pub joins_router_kept : (config : SessionConfig) (p : Place) → config_fits config ≡ true → Kept p.core → Kept (joins_router config p).place.core
+pub joins_router_kept : (config : SessionConfig) (p : Place) → config_fits config ≡ true → Kept p.core
+    → Kept (joins_router config p).place.core
 joins_router_kept config p h k =
     joins_by_kept p _ (router_of config p.core) (picked_address _ _ (routers_fit config p.core.route h k.route)) (record {
       bookmarks = k.bookmarks;
@@ -264,7 +266,8 @@ hello_kept : (writes : Bool) (p : Place) (leg : Leg) → Kept p.core → Kept (f
 hello_kept writes p Routing k = stage_kept p.core (stage.Awaits a.Route) k
 hello_kept writes p Working k = stage_kept p.core (stage.Awaits a.Begin) k
 
-pub follows_kept : (config : SessionConfig) (job : Job) (p : Place) (asked : Asked) → Kept p.core → Kept (follows config job p asked).place.core
+pub follows_kept : (config : SessionConfig) (job : Job) (p : Place) (asked : Asked) → Kept p.core
+    → Kept (follows config job p asked).place.core
 follows_kept config job p (a.Shake leg) k = stage_kept p.core (stage.Awaits (a.Hello leg)) k
 follows_kept config job p (a.Hello leg) k = hello_kept job.writes p leg k
 follows_kept config job p a.Begin k = step_kept _ (job.steps []) k
@@ -281,7 +284,7 @@ follows_kept config job p a.Pull k = step_kept _ (job.steps _) k
 follows_kept config job p a.Route k = k
 follows_kept config job p a.Commit k = k
 
-table_kept : (p : Place) (table : Table) → addresses_fit table ≡ true → Kept p.core → Kept (keeps_table p table).core
+pub table_kept : (p : Place) (table : Table) → addresses_fit table ≡ true → Kept p.core → Kept (keeps_table p table).core
 table_kept p table h k = record {
   bookmarks = k.bookmarks;
   few = k.few;

@@ -299,7 +299,7 @@ message_agrees asked now rows (Ok response) =
     }
 message_agrees asked now rows (Err cause) = record { answer = λ h. absurd (cc (h.1)); told_so = λ f. absurd (f refl) }
 
-told_message : (asked : Asked) (now : ℕ) (rows : List Row) (bytes : List ℕ)
+pub told_message : (asked : Asked) (now : ℕ) (rows : List Row) (bytes : List ℕ)
     → told_by asked now rows (Message bytes) ≡ message_of asked now rows bytes
 told_message (a.Shake leg) now rows bytes = refl
 told_message _ now rows bytes = refl

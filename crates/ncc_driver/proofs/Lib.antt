@@ -16,6 +16,14 @@ pub mod LawsCauses
 pub mod LawsTables
 pub mod LawsSane
 pub mod LawsGrammar
+pub mod LegsTraced
+pub mod LegsTold
+pub mod LegsTurns
+pub mod LegsHeard
+pub mod LawsBytes
+pub mod LawsLegs
+pub mod LawsLeft
+pub mod LawsJoins
 pub mod Turning
 pub mod RowTexts
 pub mod Sending

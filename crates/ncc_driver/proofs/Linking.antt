@@ -80,7 +80,8 @@ part_items : (came : List ℕ) → length came < 4 → items_of came ≡ []
 part_items came lt = let e : nat_lt (length came) 4 ≡ true = grind arith in rw e refl
 
 -- behind the four bytes, the items are those of the stream, also where the four have not come
-later_or : (came : List ℕ) (n : ℕ) → (length came < 4) ⊎ (4 ≤ length came) → drop (suc n) (items_of came) ≡ drop n (stream_items (drop 4 came))
+later_or : (came : List ℕ) (n : ℕ) → (length came < 4) ⊎ (4 ≤ length came)
+    → drop (suc n) (items_of came) ≡ drop n (stream_items (drop 4 came))
 later_or came n (inl lt) =
     let none : stream_items (drop 4 came) ≡ [] = ap stream_items (drop_all 4 came (omega arith)) ∙ none_of_none in
     rw (part_items came lt, none, drop-nil {A = Item} n) refl
@@ -121,7 +122,8 @@ back_or came piece (inr le) =
     rw n (sym (drop-append-le 4 came piece le))
 
 fed_line_of : (old new : Line) (piece front rest : List ℕ) (want m n : ℕ) → want ≡ min m (length piece) → m ≡ 4 - n
-    → n ≡ length old.shake → front ≡ take want piece → rest ≡ drop want piece → new.shake ≡ old.shake ++ front → Feeds old.inflow rest new.inflow
+    → n ≡ length old.shake → front ≡ take want piece → rest ≡ drop want piece → new.shake ≡ old.shake ++ front
+    → Feeds old.inflow rest new.inflow
     → new.taken ≡ old.taken → FeedsLine old piece new
 fed_line_of old new piece front rest want m n w l h f r s feeds t came taken k =
     let k' : ℕ = 4 - length (take 4 came) in
@@ -190,7 +192,8 @@ one_longer : (handed : List (List ℕ)) (message : List ℕ) → length (handed 
 one_longer handed message = omega (arith, length-append handed (message ∷ []))
 
 later_some : (old : Line) (inflow : Inflow) (taken : ℕ) (item : Item) → HandsItem old.inflow (Some item) inflow
-    → taken ≡ min (old.taken + 1) (2 ^ 64 - 1) → (came : List ℕ) (m : ℕ) → Keeps old came (suc m) → Later item (grown old inflow taken) came m
+    → taken ≡ min (old.taken + 1) (2 ^ 64 - 1) → (came : List ℕ) (m : ℕ) → Keeps old came (suc m)
+    → Later item (grown old inflow taken) came m
 later_some old inflow taken (Shaken bytes) h t came m k = absurd h
 later_some old inflow taken (Message message) h t came m k =
     let stream = drop 4 came in
@@ -216,7 +219,8 @@ later_some old inflow taken TooLong h t came m k =
     ap (λ (x : ℕ). drop x (stream_items stream)) (sym n) ∙ behind_long stream k.handed (h stream k.handed k.stands) in
     let e : m + 1 ≡ suc m = omega arith in
     let none : drop (suc m) (stream_items stream) ≡ [] =
-    ap (λ (x : ℕ). drop x (stream_items stream)) (sym e) ∙ sym (drop-drop 1 m (stream_items stream)) ∙ ap (λ (is : List Item). drop 1 is) next in
+    ap (λ (x : ℕ). drop x (stream_items stream)) (sym e) ∙ sym (drop-drop 1 m (stream_items stream))
+    ∙ ap (λ (is : List Item). drop 1 is) next in
     (later_items came m ∙ next ∙ ap (λ (is : List Item). TooLong ∷ is) (sym (later_items came (suc m) ∙ none)), tt)
 
 -- no item is taken yet, or some are

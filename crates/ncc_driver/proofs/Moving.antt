@@ -1,5 +1,6 @@
 -- What a session makes of what comes on a link, item by item.
-use Rattle.std.proofs.Common.{◌≡◌, ◌≢◌, ◌⊎◌, inl, inr, ℕ, ◌+◌, ◌-◌, ◌<◌, ◌^◌, min, Bool, true, false, List, [], ◌∷◌, ◌++◌, length, drop, refl, sym, ap}
+use Rattle.std.proofs.Common.{◌≡◌, ◌≢◌, ◌⊎◌, inl, inr, ℕ, ◌+◌, ◌-◌, ◌<◌, ◌^◌, min, Bool, true, false, List, [], ◌∷◌, ◌++◌, length, drop}
+use Rattle.std.proofs.Common.{refl, sym, ap}
 use Rattle.std.proofs.Common.{◌∙◌, subst, arith, append_assoc, append-nil, length-append}
 use Rattle.std.specs.Prelude.{Option, Some, None}
 use Rattle.ncc_stream.specs.Stream.{IsLawful, behind, further, going, still}
@@ -138,13 +139,15 @@ bad_rests config job now p asked number told e =
     subst (λ (t : Told). (turn_behind config job now p asked number t).place.core.stage ≡ stage.Rests) (sym e) refl
 
 keeps_behind : (config : SessionConfig) (job : Job) (now : ℕ) (p : Place) (asked : Asked) (number : ℕ) (rows : List Row) (x : Item)
-    (new : Core) (line : Line) (came : List ℕ) (taken : ℕ) → (turn_behind config job now p asked number (told_by asked now rows x)).place.core ≡ new
+    (new : Core) (line : Line) (came : List ℕ) (taken : ℕ) → (turn_behind config job now p asked number
+    (told_by asked now rows x)).place.core ≡ new
     → KeepsBehind x line came taken → KeepsAt new.stage line came taken
 keeps_behind config job now p asked number rows (Shaken b) new line came taken e k = keeps_any new.stage line came taken k
 keeps_behind config job now p asked number rows (Message b) new line came taken e k = keeps_any new.stage line came taken k
 keeps_behind config job now p asked number rows TooLong new line came taken e k =
     let rests : new.stage ≡ stage.Rests =
-    sym (ap (λ (c : Core). c.stage) e) ∙ bad_rests config job now p asked number (told_by asked now rows TooLong) (long_bad asked now rows) in
+    sym (ap (λ (c : Core). c.stage) e) ∙ bad_rests config job now p asked number (told_by asked now rows TooLong)
+    (long_bad asked now rows) in
     subst (λ (s : Stage). KeepsAt s line came taken) (sym rests) tt
 
 -- ---- one item after another
@@ -173,7 +176,8 @@ pub hears_one : (config : SessionConfig) (job : Job) (now : ℕ) (asked : Asked)
     → number ≡ line.taken - 1 → found ≡ Some item → TakesItem line found new_line
     → MakesWith stood stands (λ p. turn_behind config job now p asked number (told_by asked now core.rows item)) core new before after
     → Hears config job now stood stands core line before new new_line after true
-hears_one config job now asked number item found stood stands core new line new_line before after at n f takes_it makes told came taken b k =
+hears_one config job now asked number item found stood stands core new line new_line before after at n f takes_it makes told
+    came taken b k =
     let kept : Keeps line came taken = subst (λ (s : Stage). KeepsAt s line came taken) at k in
     let item_is = (subst (λ (o : Option Item). TakesItem line o new_line) f takes_it) came taken kept in
     let p : Place = record { core = core; told = told } in
@@ -258,7 +262,8 @@ awaits_is stage.Sleeps e = let f : false ≡ true = e in absurd (cc)
 
 -- what was put behind the actions, where nothing was written
 abbrev pub OrMore : List Action → List Action → List Action → Type 0
-OrMore held written after = (length written ≡ length held → after ≡ written ++ Receive ∷ []) × ((length written ≡ length held → ⊥) → after ≡ written)
+OrMore held written after = (length written ≡ length held → after ≡ written ++ Receive ∷ []) ×
+    ((length written ≡ length held → ⊥) → after ≡ written)
 
 pub or_more_none : (held written after : List Action) → length written ≡ length held → after ≡ written ++ Receive ∷ []
     → OrMore held written after
@@ -272,7 +277,8 @@ more_is held [] written after e h =
     let same : written ≡ held = e ∙ append-nil held in
     h.0 (ap length same) ∙ ap (λ (q : List Action). q ++ Receive ∷ []) same
 more_is held (x ∷ w) written after e h =
-    h.1 (λ l. (let f : length (held ++ x ∷ w) ≡ length held = sym (ap length e) ∙ l in absurd (omega (arith, length-append held (x ∷ w))))) ∙ e
+    h.1 (λ l. (let f : length (held ++ x ∷ w) ≡ length held = sym (ap length e)
+    ∙ l in absurd (omega (arith, length-append held (x ∷ w))))) ∙ e
 
 pub bytes_move : (config : SessionConfig) (job : Job) (now : ℕ) (piece : List ℕ) (stood stands : Rows → Type 0) (core new : Core)
     (line mid new_line : Line) (before written after : List Action) → awaits_more core.stage ≡ true → FeedsLine line piece mid

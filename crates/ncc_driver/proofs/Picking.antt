@@ -1,5 +1,6 @@
 -- Which address is picked, and what an item tells.
-use Rattle.std.proofs.Common.{◌≡◌, ◌≢◌, ℕ, zero, suc, ◌<◌, ◌%◌, Bool, true, false, List, [], ◌∷◌, length, get_or, refl, sym, ap, ◌∙◌, subst, arith}
+use Rattle.std.proofs.Common.{◌≡◌, ◌≢◌, ℕ, zero, suc, ◌<◌, ◌%◌, Bool, true, false, List, [], ◌∷◌, length, get_or, refl, sym, ap, ◌∙◌}
+use Rattle.std.proofs.Common.{subst, arith}
 use Rattle.std.specs.Prelude.{Option, Some, slice_get}
 use Rattle.ncc_pack.specs.declared.value.Value.{Value}
 use Rattle.ncc_pack.specs.declared.value.Value.TheVariants as v
@@ -76,7 +77,8 @@ picks_there xs same k x t u b e h f is text copy =
 
 -- ---- four bytes
 
-shake_told_is : (asked : Asked) (now : ℕ) (rows : List Row) (bytes : List ℕ) → shake_told asked bytes ≡ told_by asked now rows (Shaken bytes)
+shake_told_is : (asked : Asked) (now : ℕ) (rows : List Row) (bytes : List ℕ)
+    → shake_told asked bytes ≡ told_by asked now rows (Shaken bytes)
 shake_told_is (a.Shake leg) now rows bytes = refl
 shake_told_is (a.Hello leg) now rows bytes = refl
 shake_told_is a.Route now rows bytes = refl

@@ -1,5 +1,6 @@
 -- The requests that a session sends have a spelling.
-use Rattle.std.proofs.Common.{◌≡◌, ℕ, suc, true, false, Bool, List, [], ◌∷◌, ◌++◌, length, codes, append_assoc, refl, ap, sym, ◌∙◌, arith, negsuc, zero}
+use Rattle.std.proofs.Common.{◌≡◌, ℕ, suc, true, false, Bool, List, [], ◌∷◌, ◌++◌, length, codes, append_assoc, refl, ap, sym, ◌∙◌, arith}
+use Rattle.std.proofs.Common.{negsuc, zero}
 use Rattle.std.specs.Prelude.{◌≤◌, nat_le, ◌&&◌}
 use Rattle.std.proofs.lemmas.Bool.{le-leb}
 use Rattle.ncc_pack.specs.declared.value.Value.{Value}
@@ -96,7 +97,8 @@ pub route_sent : (request : Request) (address : List ℕ) → request ≡ route 
     → fits_request request ≡ true
 route_sent request address e h = ap fits_request e ∙ route_fits address h
 
-pub begin_sent : (request : Request) (bookmarks : List Value) (writes : Bool) → request ≡ begin bookmarks writes → texts_fit bookmarks ≡ true
+pub begin_sent : (request : Request) (bookmarks : List Value) (writes : Bool) → request ≡ begin bookmarks writes
+    → texts_fit bookmarks ≡ true
     → nat_le (length bookmarks) 256 ≡ true → fits_request request ≡ true
 begin_sent request bookmarks writes e h f =
     let few : length bookmarks ≤ 256 = grind arith in

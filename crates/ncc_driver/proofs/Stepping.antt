@@ -59,7 +59,8 @@ joins_idle leg i.Start n m config job now s = refl
 joins_idle leg (i.Bytes bytes) n m config job now s = refl
 joins_idle leg i.Woken n m config job now s = refl
 
-pub awaits_idle : (asked : Asked) (input : Input) → ((bytes : List ℕ) → input ≢ i.Bytes bytes) → input ≢ i.Lost → Idle (stage.Awaits asked) input
+pub awaits_idle : (asked : Asked) (input : Input) → ((bytes : List ℕ) → input ≢ i.Bytes bytes) → input ≢ i.Lost
+    → Idle (stage.Awaits asked) input
 awaits_idle asked (i.Bytes bytes) n m config job now s = absurd (n bytes refl)
 awaits_idle asked i.Lost n m config job now s = absurd (m refl)
 awaits_idle asked i.Start n m config job now s = refl
@@ -98,7 +99,8 @@ Begins st input =
 
 attempt_moves : (config : SessionConfig) (writes was : Bool) (steps : Rows → WorkStep) (now : ℕ) (input : Input) (stands : Rows → Type 0)
     (core new : Core) (line : Line) (before after : List Action) (st : Stage) → core.stage ≡ st → awaits_more st ≡ false → Begins st input
-    → writes ≡ was → config_fits config ≡ true → core_keeps core ≡ true → MakesAnew (λ p. attempts config writes p now) core new before after
+    → writes ≡ was → config_fits config ≡ true → core_keeps core ≡ true
+    → MakesAnew (λ p. attempts config writes p now) core new before after
     → Moves config (job_by was steps) now input stands stands core line before new line after
 unfolding on
 attempt_moves config writes was steps now input stands core new line before after st e quiet f w fit k m told came taken b kept =
@@ -117,7 +119,8 @@ attempt_moves config writes was steps now input stands core new line before afte
 
 pub start_moves : (config : SessionConfig) (writes was : Bool) (steps : Rows → WorkStep) (now : ℕ) (input : Input) (stands : Rows → Type 0)
     (core new : Core) (line : Line) (before after : List Action) → core.stage ≡ stage.Begun → input ≡ i.Start
-    → writes ≡ was → config_fits config ≡ true → core_keeps core ≡ true → MakesAnew (λ p. attempts config writes p now) core new before after
+    → writes ≡ was → config_fits config ≡ true → core_keeps core ≡ true
+    → MakesAnew (λ p. attempts config writes p now) core new before after
     → Moves config (job_by was steps) now input stands stands core line before new line after
 start_moves config writes was steps now input stands core new line before after e is w fit k m =
     attempt_moves config writes was steps now input stands core new line before after stage.Begun e refl
@@ -125,7 +128,8 @@ start_moves config writes was steps now input stands core new line before after 
 
 pub wake_moves : (config : SessionConfig) (writes was : Bool) (steps : Rows → WorkStep) (now : ℕ) (input : Input) (stands : Rows → Type 0)
     (core new : Core) (line : Line) (before after : List Action) → core.stage ≡ stage.Sleeps → input ≡ i.Woken
-    → writes ≡ was → config_fits config ≡ true → core_keeps core ≡ true → MakesAnew (λ p. attempts config writes p now) core new before after
+    → writes ≡ was → config_fits config ≡ true → core_keeps core ≡ true
+    → MakesAnew (λ p. attempts config writes p now) core new before after
     → Moves config (job_by was steps) now input stands stands core line before new line after
 wake_moves config writes was steps now input stands core new line before after e is w fit k m =
     attempt_moves config writes was steps now input stands core new line before after stage.Sleeps e refl
@@ -181,7 +185,8 @@ lost_moves config job now input stands core new line before after st e f m told 
     )
 
 pub unjoined_moves : (config : SessionConfig) (job : Job) (now : ℕ) (input : Input) (stands : Rows → Type 0) (core new : Core) (line : Line)
-    (before after : List Action) (leg : Leg) → core.stage ≡ stage.Joins leg → input ≡ i.Lost → Makes (λ p. loses p now) core new before after
+    (before after : List Action) (leg : Leg) → core.stage ≡ stage.Joins leg → input ≡ i.Lost
+    → Makes (λ p. loses p now) core new before after
     → Moves config job now input stands stands core line before new line after
 unjoined_moves config job now input stands core new line before after leg e is m =
     lost_moves config job now input stands core new line before after (stage.Joins leg) e
@@ -196,7 +201,8 @@ broken_moves config job now input stands core new line before after asked e is m
 
 -- this input is the opening of a link
 abbrev Opens : Leg → Input → Type 0
-Opens leg input = (config : SessionConfig) (job : Job) (now : ℕ) (s : State) → on_input config job now s (stage.Joins leg) input ≡ opens s leg
+Opens leg input = (config : SessionConfig) (job : Job) (now : ℕ) (s : State)
+    → on_input config job now s (stage.Joins leg) input ≡ opens s leg
 
 pub open_moves : (config : SessionConfig) (job : Job) (now : ℕ) (input : Input) (stands : Rows → Type 0) (core new : Core) (line mid : Line)
     (before after : List Action) (leg : Leg) → core.stage ≡ stage.Joins leg → input ≡ i.Connected
@@ -209,7 +215,8 @@ open_moves config job now input stands core new line mid before after leg e is n
     let ran : on config job now s input ≡ opens s leg =
     ap (λ (x : Stage). on_input config job now s x input) e ∙ f config job now s in
     subst (λ (c : Core). MovesTo (on config job now s input) stands before c mid after) (sym n)
-    (subst (λ (r : Ran). MovesTo r stands before (record core { stage = stage.Awaits (a.Shake leg) }) mid after) (sym ran) (refl, q, keeps, tt))
+    (subst (λ (r : Ran). MovesTo r stands before (record core { stage = stage.Awaits (a.Shake leg) }) mid after) (sym ran)
+    (refl, q, keeps, tt))
 
 -- what follows where a call went well
 pub on_all : {T E P Q R S : Type 0} (r : Result T E) → (P → Q → R → S) → OnOk r P → OnOk r Q → OnOk r R → OnOk r S

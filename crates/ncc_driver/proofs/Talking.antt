@@ -32,7 +32,8 @@ told_on config job s [] ys = refl
 told_on config job s (x ∷ xs) ys =
     let r = on config job x.1 s x.0 in
     let q = told_all config job r.state xs in
-    ap (λ (t : Ran). ahead r.actions t) (told_on config job r.state xs ys) ∙ ahead_twice r.actions q.actions (told_all config job q.state ys)
+    ap (λ (t : Ran). ahead r.actions t) (told_on config job r.state xs ys)
+    ∙ ahead_twice r.actions q.actions (told_all config job q.state ys)
 
 works_on : (config : SessionConfig) (s : State) (ws vs : List Begun)
     → works_all config s (ws ++ vs) ≡ (let r = works_all config s ws in ahead r.actions (works_all config r.state vs))
@@ -43,7 +44,8 @@ works_on config s (w ∷ ws) vs =
     let q = works_all config r.state ws in
     ap (λ (t : Ran). ahead r.actions t) (works_on config r.state ws vs) ∙ ahead_twice r.actions q.actions (works_all config q.state vs)
 
-one_work : (config : SessionConfig) (s : State) (w : Begun) → works_all config s (w ∷ []) ≡ told_all config w.job (begins w.began s) w.inputs
+one_work : (config : SessionConfig) (s : State) (w : Begun) → works_all config s (w ∷ []) ≡ told_all config w.job
+    (begins w.began s) w.inputs
 unfolding works_all
 one_work config s w =
     let r = told_all config w.job (begins w.began s) w.inputs in ahead_none r.actions r.state
@@ -57,26 +59,33 @@ one_more config job s xs input now =
     let o = on config job now r.state input in
     told_on config job s xs ((input, now) ∷ []) ∙ ap (λ (t : Ran). ahead r.actions t) (ahead_none o.actions o.state)
 
+-- a session of one more work
+pub session_last : (config : SessionConfig) (works : List Begun) (last : Begun)
+    → session config (works ++ last ∷ [])
+    ≡ (let r = session config works in ahead r.actions (told_all config last.job (begins last.began r.state) last.inputs))
+unfolding session
+session_last config works last =
+    let s = works_all config (new_state config) works in
+    works_on config (new_state config) works (last ∷ []) ∙ ap (λ (r : Ran). ahead s.actions r) (one_work config s.state last)
+
 -- a session whose last work was told one thing more
 session_told : (config : SessionConfig) (works : List Begun) (last : Begun) (input : Input) (now : ℕ)
     → session config (works ++ grown last input now ∷ [])
     ≡ (let r = session config (works ++ last ∷ []) in ahead r.actions (on config last.job now r.state input))
-unfolding session
 session_told config works last input now =
-    let s = works_all config (new_state config) works in
+    let s = session config works in
     let from = begins last.began s.state in
     let t = told_all config last.job from last.inputs in
     let o = on config last.job now t.state input in
-    let whole : session config (works ++ last ∷ []) ≡ ahead s.actions t =
-    works_on config (new_state config) works (last ∷ []) ∙ ap (λ (r : Ran). ahead s.actions r) (one_work config s.state last) in
-    works_on config (new_state config) works (grown last input now ∷ [])
-    ∙ ap (λ (r : Ran). ahead s.actions r) (one_work config s.state (grown last input now) ∙ one_more config last.job from last.inputs input now)
+    session_last config works (grown last input now)
+    ∙ ap (λ (r : Ran). ahead s.actions r) (one_more config last.job from last.inputs input now)
     ∙ ahead_twice s.actions t.actions o
-    ∙ ap (λ (r : Ran). ahead r.actions (on config last.job now r.state input)) (sym whole)
+    ∙ ap (λ (r : Ran). ahead r.actions (on config last.job now r.state input)) (sym (session_last config works last))
 
 -- a session of which one more work was begun
 session_begun : (config : SessionConfig) (works : List Begun) (job : Job) (now : ℕ)
-    → session config (works ++ begun job now ∷ []) ≡ (let r = session config works in record { state = begins now r.state; actions = r.actions })
+    → session config (works ++ begun job now ∷ []) ≡ (let r = session config works in record
+    { state = begins now r.state; actions = r.actions })
 unfolding session told_all
 session_begun config works job now =
     let s = works_all config (new_state config) works in
@@ -112,7 +121,8 @@ work_begins held job now config works out k =
     }
 
 -- what a call finds
-moved_by : (held : Held) (job : Job) (input : Input) (now : ℕ) (new : Core) (line : Line) (queue : List Action) (stood stands : Rows → Type 0)
+moved_by : (held : Held) (job : Job) (input : Input) (now : ℕ) (new : Core) (line : Line) (queue : List Action)
+    (stood stands : Rows → Type 0)
     (config : SessionConfig) (works : List Begun) (last : Begun) (out : List Action)
     → Moves held.config job now input stood stands held.core held.line held.queue new line queue
     → last.job ≡ job → Stands held config (works ++ last ∷ []) out
@@ -180,7 +190,13 @@ pub tells_as : (held was : Held) (job : Job) (input : Input) (now : ℕ) (new : 
     → Moves held.config job now input stood stands held.core held.line held.queue new line queue
     → Tells stood was job input now (record { spent = false; config = held.config; core = new; line = line; queue = queue })
 tells_as held was job input now new line queue stood stands e m =
-    subst (λ (h : Held). Tells stood h job input now (record { spent = false; config = held.config; core = new; line = line; queue = queue })) e
+    subst (λ (h : Held). Tells stood h job input now (record {
+      spent = false;
+      config = held.config;
+      core = new;
+      line = line;
+      queue = queue;
+    })) e
     (tells held job input now new line queue stood stands m)
 
 pub stays_as : (held was : Held) (job : Job) (input : Input) (now : ℕ) (new : Core) (line : Line) (queue : List Action)

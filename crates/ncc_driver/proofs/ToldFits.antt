@@ -1,5 +1,6 @@
 -- What an answer tells fits.
-use Rattle.std.proofs.Common.{◌≡◌, ℕ, suc, ◌-◌, Bool, true, false, ◌&&◌, List, [], ◌∷◌, ◌++◌, length, codes, refl, sym, ap, ◌∙◌, subst, arith}
+use Rattle.std.proofs.Common.{◌≡◌, ℕ, suc, ◌-◌, Bool, true, false, ◌&&◌, List, [], ◌∷◌, ◌++◌, length, codes, refl, sym, ap, ◌∙◌, subst}
+use Rattle.std.proofs.Common.{arith}
 use Rattle.std.specs.Prelude.{Option, Some, None, bytes_eq, nat_le, if◌then◌else◌}
 use Rattle.std.specs.List.{list_all}
 use Rattle.std.proofs.lemmas.List.Folds.{list_all-append}
@@ -28,7 +29,8 @@ use Rattle.ncc_driver.specs.Keeping.{addresses_fit, told_fits}
 use Rattle.ncc_driver.specs.Spelling.{all_fit, list_within, dict_within}
 use Rattle.ncc_driver.specs.Work.{Row, rows_fit}
 use Rattle.ncc_driver.specs.Answers.{value_at, text_in, list_by, pairs_by, list_in, pairs_in, if_texts, texts_in, seconds_in, is_true}
-use Rattle.ncc_driver.specs.Answers.{Served, server_of, server_by, server_in, one_more, servers_in, addresses_of, table_by, table_of, servers_at}
+use Rattle.ncc_driver.specs.Answers.{Served, server_of, server_by, server_in, one_more, servers_in, addresses_of, table_by, table_of}
+use Rattle.ncc_driver.specs.Answers.{servers_at}
 use Rattle.ncc_driver.specs.Answers.{table_by_pairs, table_in, told_table, told_bookmark, success_of, record_of}
 
 -- ---- values in dictionaries and lists
@@ -37,7 +39,8 @@ abbrev FitsAt : ℕ → Option Value → Type 0
 FitsAt d (Some x) = fits_within x d ≡ true
 FitsAt d None = Unit {0}
 
-first_or : (test : Bool) (x : Value) (o : Option Value) (d : ℕ) → fits_within x d ≡ true → FitsAt d o → FitsAt d (if test then Some x else o)
+first_or : (test : Bool) (x : Value) (o : Option Value) (d : ℕ) → fits_within x d ≡ true → FitsAt d o
+    → FitsAt d (if test then Some x else o)
 first_or true x o d h g = h
 first_or false x o d h g = g
 
@@ -292,7 +295,8 @@ success_fits (a.Shake leg) now meta rows h = refl
 success_fits (a.Hello leg) now meta rows h = refl
 success_fits a.Route now meta rows h =
     let rt = value_at (codes "rt") meta in
-    told_table_fits rows (table_in now rt) (table_pairs now rt (pairs_in rt) 27 (value_fits (codes "rt") meta 31 (dict_items meta 31 h)) refl)
+    told_table_fits rows (table_in now rt) (table_pairs now rt (pairs_in rt) 27
+    (value_fits (codes "rt") meta 31 (dict_items meta 31 h)) refl)
 success_fits a.Begin now meta rows h = refl
 success_fits a.Run now meta rows h = refl
 success_fits a.Pull now meta rows h = done_or_bad rows (is_true (value_at (codes "has_more") meta))

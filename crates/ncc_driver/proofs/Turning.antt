@@ -11,7 +11,8 @@ use Rattle.ncc_driver.specs.declared.action.WorkError.TheVariants as e
 use Rattle.ncc_driver.specs.State.{Place, Turned, Makes}
 use Rattle.ncc_driver.specs.Work.{Row}
 use Rattle.ncc_driver.specs.Requests.{closes}
-use Rattle.ncc_driver.specs.Attempts.{is_spent, finishes, retries, sleeps, before, is_transient, is_no_leader, fails, at_core, place_of, done_of, succeeds}
+use Rattle.ncc_driver.specs.Attempts.{is_spent, finishes, retries, sleeps, before, is_transient, is_no_leader, fails, at_core, place_of}
+use Rattle.ncc_driver.specs.Attempts.{done_of, succeeds}
 
 pub spent_retries : (core new : Core) (now : ℕ) (last : Last) (qs rs : List Action) → is_spent now core.began ≡ true
     → Makes (λ p. finishes p (Err (e.RetriesSpent core.attempts last))) core new qs rs → Makes (λ p. retries p now last) core new qs rs
@@ -36,18 +37,22 @@ refused core new now code qs mid rs t n m h told =
 
 -- the work was committed
 pub succeeded : (core new : Core) (bookmark moved copy : List ℕ) (none marks : List Value) (place : Option ℕ) (rows : List Row)
-    (qs mid rs : List Action) → mid ≡ qs ++ closes → moved ≡ bookmark → none ≡ [] → copy ≡ bookmark → marks ≡ none ++ v.Text copy ∷ [] → place ≡ place_of bookmark
+    (qs mid rs : List Action) → mid ≡ qs ++ closes → moved ≡ bookmark → none ≡ [] → copy ≡ bookmark → marks ≡ none ++ v.Text copy ∷ []
+    → place ≡ place_of bookmark
     → rows ≡ core.rows
     → Makes (λ p. finishes p (Ok (record { attempts = core.attempts; place = place; bookmark = moved; rows = rows })))
     (record core { bookmarks = marks }) new mid rs
     → Makes (λ p. succeeds p bookmark) core new qs rs
 succeeded core new bookmark moved copy none marks place rows qs mid rs m b z s e p r h =
-    let marks' : marks ≡ v.Text bookmark ∷ [] = e ∙ ap (λ (xs : List Value). xs ++ v.Text copy ∷ []) z ∙ ap (λ (t : List ℕ). v.Text t ∷ []) s in
+    let marks' : marks ≡ v.Text bookmark ∷ [] = e ∙ ap (λ (xs : List Value). xs ++ v.Text copy ∷ []) z
+    ∙ ap (λ (t : List ℕ). v.Text t ∷ []) s in
     let done : WorkDone = record { attempts = core.attempts; place = place; bookmark = moved; rows = rows } in
     let same : done ≡ done_of core bookmark =
     ap (λ (t : List ℕ). record { attempts = core.attempts; place = place; bookmark = t; rows = rows }) b
     ∙ ap (λ (o : Option ℕ). record { attempts = core.attempts; place = o; bookmark = bookmark; rows = rows }) p
     ∙ ap (λ (x : List Row). record { attempts = core.attempts; place = place_of bookmark; bookmark = bookmark; rows = x }) r in
     let g = subst (λ (xs : List Value). Makes (λ p. finishes p (Ok done)) (record core { bookmarks = xs }) new mid rs) marks' h in
-    let g' = subst (λ (d : WorkDone). Makes (λ p. finishes p (Ok d)) (record core { bookmarks = v.Text bookmark ∷ [] }) new mid rs) same g in
-    closed (λ p. finishes (at_core p (record p.core { bookmarks = v.Text bookmark ∷ [] })) (Ok (done_of p.core bookmark))) core new qs mid rs m g'
+    let g' = subst (λ (d : WorkDone). Makes (λ p. finishes p (Ok d)) (record core { bookmarks = v.Text bookmark ∷ [] }) new mid
+    rs) same g in
+    closed (λ p. finishes (at_core p (record p.core { bookmarks = v.Text bookmark ∷ [] })) (Ok (done_of p.core bookmark))) core new
+    qs mid rs m g'

@@ -1,5 +1,6 @@
 -- What the parts of a session make of what comes on a link. No public clause speaks of it.
-use Rattle.std.specs.Prelude.{◌≡◌, ◌⊎◌, ℕ, ◌+◌, Bool, true, false, List, [], ◌∷◌, ◌++◌, length, drop, Option, Some, None, if◌then◌else◌, nat_lt}
+use Rattle.std.specs.Prelude.{◌≡◌, ◌⊎◌, ℕ, ◌+◌, Bool, true, false, List, [], ◌∷◌, ◌++◌, length, drop, Option, Some, None, if◌then◌else◌}
+use Rattle.std.specs.Prelude.{nat_lt}
 use Rattle.ncc_stream.specs.Stream.{going, behind}
 use Rattle.ncc_chunk.specs.Chunks.{EndsAfter, IsTooLongAfter}
 use Rattle.ncc_chunk.specs.Inflow.{Inflow, Stands as StandsFor, HandsOut as HandsMessage}

@@ -2,6 +2,11 @@ pub mod Worked
 pub mod Laws
 pub mod LawsEnds
 pub mod LawsAnswers
+pub mod LawsLegs
+pub mod WorkedLegs
+pub mod LawsFits
+pub mod LawsJoins
+pub mod LawsLeft
 pub mod Work
 pub mod Works
 pub mod Config

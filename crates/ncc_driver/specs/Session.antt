@@ -1,5 +1,6 @@
 -- A session: what it wants done for the works that were begun, by what it was told and when.
-use Rattle.std.specs.Prelude.{ℕ, ◌+◌, ◌-◌, ◌^◌, min, Bool, if◌then◌else◌, nat_lt, List, [], ◌∷◌, ◌++◌, length, map, take, drop, Option, Some, None}
+use Rattle.std.specs.Prelude.{ℕ, ◌+◌, ◌-◌, ◌^◌, min, Bool, if◌then◌else◌, nat_lt, List, [], ◌∷◌, ◌++◌, length, map, take, drop, Option}
+use Rattle.std.specs.Prelude.{Some, None}
 use Rattle.ncc_stream.specs.Stream.{Stand, Move, going}
 use Rattle.ncc_chunk.specs.Messages.{messages_of, is_too_long}
 use Rattle.ncc_driver.specs.declared.config.SessionConfig.{SessionConfig}

@@ -10,7 +10,8 @@ use Rattle.ncc_pack.specs.Limits.{max_size}
 use Rattle.ncc_pack.specs.Fits.{fits, fits_i64, fits_within}
 use Rattle.ncc_pack.proofs.Deeper.{deeper}
 use Rattle.ncc_driver.specs.Work.{Row, rows_fit, step_fits}
-use Rattle.ncc_driver.specs.Works.{key_at, counted, old_in, reads_counter, raises_counter, add_steps, put_steps, gets_pair, get_steps, puts_pair}
+use Rattle.ncc_driver.specs.Works.{key_at, counted, old_in, reads_counter, raises_counter, add_steps, put_steps, gets_pair, get_steps}
+use Rattle.ncc_driver.specs.Works.{puts_pair}
 use Rattle.ncc_driver.specs.Spelling.{all_fit, text_alone, number_within, list_within, literal_alone, pair_on, text_on, dict_by}
 
 zero_fits : (d : ℕ) → fits_within (v.Int (pos 0)) d ≡ true
@@ -38,7 +39,8 @@ counted_fits x d = subst (Counts d) (roll-out-Value x) (counts_by (out-Value x) 
 
 first_of : (row : Row) (rows : List Row) → rows_fit (row ∷ rows) ≡ true → fits_within (v.List row) 31 ≡ true
 first_of row rows h =
-    let e : (nat_le (length (v.List row ∷ map v.List rows)) max_size && list_all (λ x. fits_within x 31) (v.List row ∷ map v.List rows)) ≡ true =
+    let e : (nat_le (length (v.List row ∷ map v.List rows)) max_size && list_all (λ x. fits_within x 31)
+    (v.List row ∷ map v.List rows)) ≡ true =
     sym (list_within (v.List row ∷ map v.List rows) 32 (omega arith)) ∙ h in
     grind arith
 

@@ -4,9 +4,14 @@ ghost use Rattle.ncc_driver.specs.Laws.{CutsChangeOnlyReceives, PiecesMayBeCut, 
 ghost use Rattle.ncc_driver.specs.Laws.{PresentsLast, KeepsLast, OthersChangeNothing, LostWhileLinked};
 ghost use Rattle.ncc_driver.specs.LawsAnswers.{BadOutsideGrammar, FailedByCode, CommittedByBookmark};
 ghost use Rattle.ncc_driver.specs.LawsEnds.{ActsByMoments, EndsExactly};
+ghost use Rattle.ncc_driver.specs.LawsFits.{SendsWhatFits, SendsWhatFitsToBytes};
+ghost use Rattle.ncc_driver.specs.LawsJoins.{ConnectsLast, JoinsBehindConnect, SucceedsOnBytes};
+ghost use Rattle.ncc_driver.specs.LawsLeft.{SendsLower, LeftAtMost, BeginsSilent, AttemptSendsAtMost, AddHasTwo, PutHasOne, GetHasOne};
+ghost use Rattle.ncc_driver.specs.LawsLegs.{SendsByLegs, SendsOnLinks, SendsByLegsSince, EndsLast, CommitsByAnswer};
 ghost use Rattle.ncc_driver.specs.Worked.{DelaysDouble, SpentAtThirtySeconds, NextWorkBeginsAnew, RoutersTakeTurns};
 ghost use Rattle.ncc_driver.specs.Worked.{OthersArePassedOver, HandshakeInPieces, AnotherVersion};
 ghost use Rattle.ncc_driver.specs.Worked.{TransientKeepsTable, NoLeaderDropsTable, OtherCodesEnd, IgnoredIsBad};
+ghost use Rattle.ncc_driver.specs.WorkedLegs.{BrokenLinkSent, PutSent, RouterSent};
 ghost use Rattle.ncc_driver.specs.Worked.{NextWorkPresents, TableEnds, NoTimeServesOnce, BrokenCommit};
 
 /// How the bytes of answers were cut changes nothing but Receives.
@@ -43,6 +48,40 @@ pub fn waits_exactly()
     ensures lost { LostWhileLinked }
 {}
 
+/// What a session sends on a link: the handshake and a part of what a router is asked, or of a transaction of the work that presents the
+/// bookmark of the last success before it.
+pub fn sends_by_legs()
+    ensures legs { SendsByLegs }
+    ensures links { SendsOnLinks }
+    ensures since { SendsByLegsSince }
+    ensures fit { SendsWhatFits }
+    ensures fit_to_bytes { SendsWhatFitsToBytes }
+    ensures last { EndsLast }
+{}
+
+/// What a success rests on: its whole transaction was sent on its last link, and a message of that link is a SUCCESS with its bookmark.
+pub fn commits_by_answer()
+    ensures commits { CommitsByAnswer }
+{}
+
+/// A Connect is the last thing that is wanted behind an input, and success comes only of bytes that were awaited.
+pub fn connects_last()
+    ensures last { ConnectsLast }
+    ensures waits { JoinsBehindConnect }
+    ensures succeeds { SucceedsOnBytes }
+{}
+
+/// How much an attempt sends at most: each thing that is sent lowers what is left, and with two steps no more than eleven are sent.
+pub fn attempts_send_so_much()
+    ensures lower { SendsLower }
+    ensures most { LeftAtMost }
+    ensures silent { BeginsSilent }
+    ensures attempt { AttemptSendsAtMost }
+    ensures add { AddHasTwo }
+    ensures put { PutHasOne }
+    ensures get { GetHasOne }
+{}
+
 /// Worked runs that come to no transaction: delays, the end of trying again, the next work, routers in turn, inputs that are passed over,
 /// and handshakes.
 pub fn worked_runs()
@@ -66,4 +105,11 @@ pub fn worked_works()
     ensures ended { TableEnds }
     ensures once { NoTimeServesOnce }
     ensures broken { BrokenCommit }
+{}
+
+/// What links of these runs were sent.
+pub fn worked_legs()
+    ensures broken { BrokenLinkSent }
+    ensures put { PutSent }
+    ensures router { RouterSent }
 {}

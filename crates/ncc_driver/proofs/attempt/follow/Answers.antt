@@ -15,7 +15,8 @@ send-requires-in-Run g c = record { fits = pull_sent _ c.in_ok-pull-in-Run.ensur
 
 pub returns-in-Hello-clause-stands : goal.returns-in-Hello-clause-stands
 returns-in-Hello-clause-stands g c =
-    on_ok_weaker c.follow_hello.result (hello_stands _ c.in-Hello.leg c.args.core.now c.follow_hello.new.core _ _ _) c.follow_hello.ensures.ok
+    on_ok_weaker c.follow_hello.result (hello_stands _ c.in-Hello.leg c.args.core.now c.follow_hello.new.core _ _ _)
+    c.follow_hello.ensures.ok
 
 pub returns-in_ok-step-in-Pull-clause-ok : goal.returns-in_ok-step-in-Pull-clause-ok
 returns-in_ok-step-in-Pull-clause-ok g c =

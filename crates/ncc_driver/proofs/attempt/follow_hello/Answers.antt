@@ -7,5 +7,6 @@ send-requires c = record { fits = route_sent _ _ c.in_ok-request-in-Routing.ensu
 
 pub send-requires-in-Working : goal.send-requires-in-Working
 send-requires-in-Working c = record {
-  fits = begin_sent _ _ c.args.writes c.in_ok-request-in-Working.ensures (kept_of c.args.core.now c.requires.keeps).bookmarks (kept_of c.args.core.now c.requires.keeps).few;
+  fits = begin_sent _ _ c.args.writes c.in_ok-request-in-Working.ensures (kept_of c.args.core.now c.requires.keeps).bookmarks
+      (kept_of c.args.core.now c.requires.keeps).few;
 }

@@ -2,32 +2,38 @@ use Rattle.std.proofs.Common.{refl}
 use Rattle.std.proofs.lemmas.Result.{on_ok_weaker}
 use Rattle.ncc_driver.specs.declared.standing.Stage.TheVariants as stage
 use Rattle.ncc_driver.specs.Work.{job_by}
-use Rattle.ncc_driver.proofs.Stepping.{idle_moves, rests_idle, begun_idle, sleeps_idle, joins_idle, awaits_idle, start_moves, wake_moves, anew_stands}
+use Rattle.ncc_driver.proofs.Stepping.{idle_moves, rests_idle, begun_idle, sleeps_idle, joins_idle, awaits_idle, start_moves, wake_moves}
+use Rattle.ncc_driver.proofs.Stepping.{anew_stands}
 use Rattle.ncc_driver.proofs.Stepping.{lost_keeps, lost_stands, unjoined_moves, broken_moves, open_moves, on_all}
 use Rattle.ncc_driver.proofs.turn.turn.Goals as goal
 
 pub returns-in-Rests-clause-ok : goal.returns-in-Rests-clause-ok
 returns-in-Rests-clause-ok g c =
-    idle_moves c.args.config.now (job_by (g.W.Work.writing c.args.work.now) (g.W.Work.steps c.args.work.now)) c.args.now c.args.input.now (g.W.Work.stands c.args.work.now) c.args.core.now c.args.link.now c.args.queue.now.items stage.Rests
+    idle_moves c.args.config.now (job_by (g.W.Work.writing c.args.work.now) (g.W.Work.steps c.args.work.now)) c.args.now c.args.input.now
+    (g.W.Work.stands c.args.work.now) c.args.core.now c.args.link.now c.args.queue.now.items stage.Rests
     c.in-Rests.is (rests_idle c.args.input.now)
 
 pub returns-in-Start-clause-ok : goal.returns-in-Start-clause-ok
 returns-in-Start-clause-ok g c =
     on_ok_weaker c.attempt.result
-    (start_moves c.args.config.now c.writes.result (g.W.Work.writing c.args.work.now) (g.W.Work.steps c.args.work.now) c.args.now c.args.input.now (g.W.Work.stands c.args.work.now)
-    c.args.core.now c.attempt.new.core c.args.link.now _ _ c.in-Begun.is c.in-Start.is c.writes.ensures.exact c.requires.allowed c.requires.keeps)
+    (start_moves c.args.config.now c.writes.result (g.W.Work.writing c.args.work.now) (g.W.Work.steps c.args.work.now) c.args.now
+    c.args.input.now (g.W.Work.stands c.args.work.now)
+    c.args.core.now c.attempt.new.core c.args.link.now _ _ c.in-Begun.is c.in-Start.is c.writes.ensures.exact c.requires.allowed
+    c.requires.keeps)
     c.attempt.ensures.ok
 
 pub returns-in-Start-clause-stands : goal.returns-in-Start-clause-stands
 returns-in-Start-clause-stands g c =
     on_ok_weaker c.attempt.result
-    (anew_stands c.args.config.now c.writes.result c.args.now c.args.core.now c.attempt.new.core _ _ (g.W.Work.stands c.args.work.now) stage.Begun c.in-Begun.is refl
+    (anew_stands c.args.config.now c.writes.result c.args.now c.args.core.now c.attempt.new.core _ _ (g.W.Work.stands c.args.work.now)
+    stage.Begun c.in-Begun.is refl
     c.requires.allowed c.requires.keeps)
     c.attempt.ensures.ok
 
 pub returns-in_default : goal.returns-in_default
 returns-in_default g c = record {
-  ok = idle_moves c.args.config.now (job_by (g.W.Work.writing c.args.work.now) (g.W.Work.steps c.args.work.now)) c.args.now c.args.input.now (g.W.Work.stands c.args.work.now) c.args.core.now c.args.link.now c.args.queue.now.items (stage.Begun)
+  ok = idle_moves c.args.config.now (job_by (g.W.Work.writing c.args.work.now) (g.W.Work.steps c.args.work.now)) c.args.now
+      c.args.input.now (g.W.Work.stands c.args.work.now) c.args.core.now c.args.link.now c.args.queue.now.items (stage.Begun)
       c.in-Begun.is (begun_idle c.args.input.now c.in_default.not-Start);
   keeps = c.requires.keeps;
   stands = c.requires.stands;
@@ -38,20 +44,24 @@ returns-in_default g c = record {
 pub returns-in-Woken-clause-ok : goal.returns-in-Woken-clause-ok
 returns-in-Woken-clause-ok g c =
     on_ok_weaker c.attempt-in-Woken.result
-    (wake_moves c.args.config.now c.writes-in-Woken.result (g.W.Work.writing c.args.work.now) (g.W.Work.steps c.args.work.now) c.args.now c.args.input.now (g.W.Work.stands c.args.work.now)
-    c.args.core.now c.attempt-in-Woken.new.core c.args.link.now _ _ c.in-Sleeps.is c.in-Woken.is c.writes-in-Woken.ensures.exact c.requires.allowed c.requires.keeps)
+    (wake_moves c.args.config.now c.writes-in-Woken.result (g.W.Work.writing c.args.work.now) (g.W.Work.steps c.args.work.now) c.args.now
+    c.args.input.now (g.W.Work.stands c.args.work.now)
+    c.args.core.now c.attempt-in-Woken.new.core c.args.link.now _ _ c.in-Sleeps.is c.in-Woken.is c.writes-in-Woken.ensures.exact
+    c.requires.allowed c.requires.keeps)
     c.attempt-in-Woken.ensures.ok
 
 pub returns-in-Woken-clause-stands : goal.returns-in-Woken-clause-stands
 returns-in-Woken-clause-stands g c =
     on_ok_weaker c.attempt-in-Woken.result
-    (anew_stands c.args.config.now c.writes-in-Woken.result c.args.now c.args.core.now c.attempt-in-Woken.new.core _ _ (g.W.Work.stands c.args.work.now) stage.Sleeps c.in-Sleeps.is refl
+    (anew_stands c.args.config.now c.writes-in-Woken.result c.args.now c.args.core.now c.attempt-in-Woken.new.core _ _
+    (g.W.Work.stands c.args.work.now) stage.Sleeps c.in-Sleeps.is refl
     c.requires.allowed c.requires.keeps)
     c.attempt-in-Woken.ensures.ok
 
 pub returns-in_default-input : goal.returns-in_default-input
 returns-in_default-input g c = record {
-  ok = idle_moves c.args.config.now (job_by (g.W.Work.writing c.args.work.now) (g.W.Work.steps c.args.work.now)) c.args.now c.args.input.now (g.W.Work.stands c.args.work.now) c.args.core.now c.args.link.now c.args.queue.now.items (stage.Sleeps)
+  ok = idle_moves c.args.config.now (job_by (g.W.Work.writing c.args.work.now) (g.W.Work.steps c.args.work.now)) c.args.now
+      c.args.input.now (g.W.Work.stands c.args.work.now) c.args.core.now c.args.link.now c.args.queue.now.items (stage.Sleeps)
       c.in-Sleeps.is (sleeps_idle c.args.input.now c.in_default-input.not-Woken);
   keeps = c.requires.keeps;
   stands = c.requires.stands;
@@ -70,7 +80,9 @@ returns-in-Connected-clause-ok g c =
 pub returns-in-Lost-clause-ok : goal.returns-in-Lost-clause-ok
 returns-in-Lost-clause-ok g c =
     on_ok_weaker c.lose.result
-    (unjoined_moves c.args.config.now (job_by (g.W.Work.writing c.args.work.now) (g.W.Work.steps c.args.work.now)) c.args.now c.args.input.now (g.W.Work.stands c.args.work.now) c.args.core.now c.lose.new.core c.args.link.now _ _ c.in-Joins.leg c.in-Joins.is c.in-Lost.is)
+    (unjoined_moves c.args.config.now (job_by (g.W.Work.writing c.args.work.now) (g.W.Work.steps c.args.work.now)) c.args.now
+    c.args.input.now (g.W.Work.stands c.args.work.now) c.args.core.now c.lose.new.core c.args.link.now _ _ c.in-Joins.leg c.in-Joins.is
+    c.in-Lost.is)
     c.lose.ensures.ok
 
 pub returns-in-Lost-clause-keeps : goal.returns-in-Lost-clause-keeps
@@ -79,11 +91,13 @@ returns-in-Lost-clause-keeps g c =
 
 pub returns-in-Lost-clause-stands : goal.returns-in-Lost-clause-stands
 returns-in-Lost-clause-stands g c =
-    on_ok_weaker c.lose.result (lost_stands c.args.now c.args.core.now c.lose.new.core _ _ (g.W.Work.stands c.args.work.now)) c.lose.ensures.ok
+    on_ok_weaker c.lose.result (lost_stands c.args.now c.args.core.now c.lose.new.core _ _ (g.W.Work.stands c.args.work.now))
+    c.lose.ensures.ok
 
 pub returns-in_default-input-2 : goal.returns-in_default-input-2
 returns-in_default-input-2 g c = record {
-  ok = idle_moves c.args.config.now (job_by (g.W.Work.writing c.args.work.now) (g.W.Work.steps c.args.work.now)) c.args.now c.args.input.now (g.W.Work.stands c.args.work.now) c.args.core.now c.args.link.now c.args.queue.now.items (stage.Joins c.in-Joins.leg)
+  ok = idle_moves c.args.config.now (job_by (g.W.Work.writing c.args.work.now) (g.W.Work.steps c.args.work.now)) c.args.now
+      c.args.input.now (g.W.Work.stands c.args.work.now) c.args.core.now c.args.link.now c.args.queue.now.items (stage.Joins c.in-Joins.leg)
       c.in-Joins.is (joins_idle c.in-Joins.leg c.args.input.now c.in_default-input-2.not-Connected
       c.in_default-input-2.not-Lost);
   keeps = c.requires.keeps;
@@ -95,20 +109,26 @@ returns-in_default-input-2 g c = record {
 pub returns-in-Lost-input-clause-ok : goal.returns-in-Lost-input-clause-ok
 returns-in-Lost-input-clause-ok g c =
     on_ok_weaker c.lose-in-Lost-input.result
-    (broken_moves c.args.config.now (job_by (g.W.Work.writing c.args.work.now) (g.W.Work.steps c.args.work.now)) c.args.now c.args.input.now (g.W.Work.stands c.args.work.now) c.args.core.now c.lose-in-Lost-input.new.core c.args.link.now _ _ c.in-Awaits.field-0 c.in-Awaits.is c.in-Lost-input.is)
+    (broken_moves c.args.config.now (job_by (g.W.Work.writing c.args.work.now) (g.W.Work.steps c.args.work.now)) c.args.now
+    c.args.input.now (g.W.Work.stands c.args.work.now) c.args.core.now c.lose-in-Lost-input.new.core c.args.link.now _ _
+    c.in-Awaits.field-0 c.in-Awaits.is c.in-Lost-input.is)
     c.lose-in-Lost-input.ensures.ok
 
 pub returns-in-Lost-input-clause-keeps : goal.returns-in-Lost-input-clause-keeps
 returns-in-Lost-input-clause-keeps g c =
-    on_ok_weaker c.lose-in-Lost-input.result (lost_keeps c.args.now c.args.core.now c.lose-in-Lost-input.new.core _ _ c.requires.keeps) c.lose-in-Lost-input.ensures.ok
+    on_ok_weaker c.lose-in-Lost-input.result (lost_keeps c.args.now c.args.core.now c.lose-in-Lost-input.new.core _ _ c.requires.keeps)
+    c.lose-in-Lost-input.ensures.ok
 
 pub returns-in-Lost-input-clause-stands : goal.returns-in-Lost-input-clause-stands
 returns-in-Lost-input-clause-stands g c =
-    on_ok_weaker c.lose-in-Lost-input.result (lost_stands c.args.now c.args.core.now c.lose-in-Lost-input.new.core _ _ (g.W.Work.stands c.args.work.now)) c.lose-in-Lost-input.ensures.ok
+    on_ok_weaker c.lose-in-Lost-input.result (lost_stands c.args.now c.args.core.now c.lose-in-Lost-input.new.core _ _
+    (g.W.Work.stands c.args.work.now)) c.lose-in-Lost-input.ensures.ok
 
 pub returns-in_default-input-3 : goal.returns-in_default-input-3
 returns-in_default-input-3 g c = record {
-  ok = idle_moves c.args.config.now (job_by (g.W.Work.writing c.args.work.now) (g.W.Work.steps c.args.work.now)) c.args.now c.args.input.now (g.W.Work.stands c.args.work.now) c.args.core.now c.args.link.now c.args.queue.now.items (stage.Awaits c.in-Awaits.field-0)
+  ok = idle_moves c.args.config.now (job_by (g.W.Work.writing c.args.work.now) (g.W.Work.steps c.args.work.now)) c.args.now
+      c.args.input.now (g.W.Work.stands c.args.work.now) c.args.core.now c.args.link.now c.args.queue.now.items
+      (stage.Awaits c.in-Awaits.field-0)
       c.in-Awaits.is (awaits_idle c.in-Awaits.field-0 c.args.input.now c.in_default-input-3.not-Bytes
       c.in_default-input-3.not-Lost);
   keeps = c.requires.keeps;
