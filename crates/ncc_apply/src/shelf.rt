@@ -4,6 +4,7 @@ ghost use Rattle.std.specs.Prelude.{◌≡◌, ◌≤◌, ◌↔◌, ◌++◌, �
 ghost use Rattle.ncc_store.specs.Answers.{Gives};
 ghost use Rattle.ncc_store.specs.Delta.{IsLeast, IsOver, applied};
 ghost use Rattle.ncc_store.specs.Exec.{call_of, exec};
+ghost use Rattle.ncc_store.specs.Laws.{GoesOn};
 ghost use Rattle.ncc_tx.specs.declared.entry.Item.{Item};
 ghost use Rattle.ncc_tx.specs.State.{stamps, state};
 ghost use Rattle.ncc_apply.specs.View.{Alike, stamp_of};
@@ -13,7 +14,7 @@ ghost use Rattle.ncc_apply.specs.Meant.{alike};
 use crate::runs::{Run, add, last_place, stamp_at};
 use crate::view::View;
 use ncc_pack::Memory;
-use ncc_store::{Overlay, Ran, RunError, Steps, Store};
+use ncc_store::{Delta, Overlay, Ran, RunError, Steps, Store};
 use ncc_tx::{Item, Stamp, stamp_item, stamps_grow, state_grows};
 use std::alloc::{AllocError, Global};
 use std::marker::Model;
@@ -73,6 +74,24 @@ impl Shelf {
         state_grows();
         stamps_grow();
         Ok(())
+    }
+
+    /// Goes on from what earlier steps would change, which is moved: it runs these steps over the store that the items leave and those
+    /// changes, and changes nothing. The rows are those of these steps alone, and the delta is that of all.
+    pub fn run_on(&self, alloc: Global, earlier: Delta, steps: &Steps) -> Result<Ran, RunError>
+        requires over { (h : List Item) × Stands self.now h × IsOver (state h) earlier }
+        // The rows and the store after the last step, or the first fault, are those of the calls over the store that the earlier delta
+        // leaves.
+        ensures exact { (h : List Item) → Stands self.now h → Gives (λ r. record { rows = r.rows; graph = applied r.delta (state h) })
+            result (exec (applied earlier (state h)) (map call_of steps.now)) }
+        // What all steps would change can be put into an equal store.
+        ensures over { (h : List Item) → Stands self.now h → IfOk result (λ r. IsOver (state h) r.delta) }
+        // It is the least: no node in it is as the store has it.
+        ensures least { (h : List Item) → Stands self.now h → IfOk result (λ r. IsLeast (state h) r.delta) }
+        // It is the run of all: of any calls that leave that store, and then of these.
+        ensures all { (h : List Item) → Stands self.now h → GoesOn (state h) earlier (map call_of steps.now) result }
+    {
+        Overlay::go_on(alloc, &self.store, earlier, steps)
     }
 }
 
