@@ -13,7 +13,7 @@ use Rattle.ncc_clients.specs.declared.told.Told.{Told as Saying}
 use Rattle.ncc_clients.specs.Members.{Cluster, Proposed, elsewhere, full, placed, at_of, config_of}
 use Rattle.ncc_clients.specs.Run.{Run, Client, Placing, begun, talk_of, question_of, ticked, opened, fed, with_bytes, told_to}
 use Rattle.ncc_clients.specs.Run.{with_fact, moved, accepted, with_placing, proposed, closed_at}
-use Rattle.ncc_clients.specs.Moment.{IsOpen, Proposes, Small, Ticks, Opens, Feeds, Tells, Offers, Moves, Closes, Path, Here, Then}
+use Rattle.ncc_clients.specs.Moment.{IsOpen, Proposes, Small, Ticks, Opens, Feeds, Tells, Offers, Moves, Drives, Closes, Path, Here, Then}
 use Rattle.ncc_clients.specs.Four.{Four, Accepts}
 use Rattle.ncc_clients.specs.Lawful.{place_of}
 use Rattle.ncc_clients.specs.Laws.{facts_to}
@@ -56,7 +56,7 @@ abbrev saying : ℕ → Client → Fact → Saying
 saying line c fact = record { line = line; conn = c.number; fact = fact }
 
 -- a client that connects
-abbrev newcomer : {S : Type 0} → Run S → ℕ → Bool → Client
+abbrev pub newcomer : {S : Type 0} → Run S → ℕ → Bool → Client
 newcomer r member printed = record {
   number = length r.clients + 1;
   member = member;
@@ -315,6 +315,7 @@ module _ {S : Type 0} (C : Cluster S) (start : S) (known : Known) (four : Four C
   small_keeps r _ (Offers line _ i c entry p) from k =
       offered_keeps line r i c entry (C.propose r.members c.member entry) refl (Offers line r i c entry p) from p k
   small_keeps r _ (Moves _ members m) from k = all_stay r (moved C r members) (Moves r members m) from refl refl k
+  small_keeps r _ (Drives _ driving) from k = all_stay r (record r { driving = driving }) (Drives r driving) from refl refl k
   small_keeps r _ (Closes _ i c is) from k =
       one_changes r (closed_at r i c) i c (record c { closed = true }) (Closes r i c is) from is.there refl refl k
       (closed_sound r i c (k.each i c is.there))

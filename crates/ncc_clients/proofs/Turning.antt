@@ -16,7 +16,7 @@ module _ {S : Type 0} (C : Cluster S) where
   open_at r c None h e = absurd (let f : false ≡ true = e in cc)
   open_at r c (Some q) h e = open_by c.closed (asked_at (talk_of C c).core) q h
 
-  acting : (r : Run S) (c : Client) → is_answer (reply C r c) ≡ true → c.closed ≡ false
+  pub acting : (r : Run S) (c : Client) → is_answer (reply C r c) ≡ true → c.closed ≡ false
   unfolding reply
   acting r c e = open_at r c (question_of C c) refl e
 

@@ -3,7 +3,7 @@ use Rattle.std.specs.Prelude.{◌≡◌, ◌⊎◌, ℕ, ◌+◌, ◌≤◌, nat
 use Rattle.std.specs.Prelude.{count_by, if◌then◌else◌}
 use Rattle.std.specs.List.{AllByRecursion}
 use Rattle.ncc_session.specs.declared.ask.Fact.{Fact}
-use Rattle.ncc_session.specs.declared.ask.Fact.TheVariants.{Placed, Elsewhere, Full}
+use Rattle.ncc_session.specs.declared.ask.Fact.TheVariants.{Done, Placed, Stale, Elsewhere, Full}
 use Rattle.ncc_session.specs.Question.{Question}
 use Rattle.ncc_clients.specs.declared.told.Told.{Told}
 use Rattle.ncc_tx.specs.declared.entry.Entry.{Entry}
@@ -13,7 +13,7 @@ use Rattle.ncc_clients.specs.Run.{Run, Client, begun, talk_of, question_of, told
 use Rattle.ncc_clients.specs.Turn.{Turns, Settles, AtRest, NobodyIsForgotten}
 use Rattle.ncc_clients.specs.Moment.{IsOpen, Proposes, Path}
 use Rattle.ncc_clients.specs.Four.{Four, Begins}
-use Rattle.ncc_clients.specs.Lawful.{Lawful}
+use Rattle.ncc_clients.specs.Lawful.{Lawful, need_of}
 
 -- A member answers the question of a connection by this fact: at once, or where it does not accept its entry.
 abbrev pub Refuses : {S : Type 0} → Cluster S → Run S → Client → Entry → Fact → Type 0
@@ -30,6 +30,18 @@ abbrev pub EachFactIsLawful : {S : Type 0} → Cluster S → S → Run S → Typ
 EachFactIsLawful {S} C start end =
     (line : ℕ) (r : Run S) (i : ℕ) (c : Client) (question : Question) (fact : Fact) → Path C (begun start) r → IsAnswered C r i c fact
     → question_of C c ≡ Some question → Path C (told_to line r i c fact) end → Lawful C end.history r i c question fact
+
+-- A fact that says where a transaction ended says a place at or behind this one.
+abbrev pub EndsBehind : ℕ → Fact → Type 0
+EndsBehind need (Placed place) = need ≤ place
+EndsBehind need (Stale place) = need ≤ place
+EndsBehind need (Done at) = need ≤ at
+EndsBehind need _ = Unit {0}
+
+-- Each transaction ends at or behind what it needs.
+abbrev pub StandsBehindItsNeed : {S : Type 0} → Cluster S → S → Type 0
+StandsBehindItsNeed {S} C start =
+    (r : Run S) (i : ℕ) (c : Client) (fact : Fact) → Path C (begun start) r → IsAnswered C r i c fact → EndsBehind (need_of C c) fact
 
 -- no two writes are told one place
 abbrev pub is_place : ℕ → Fact → Bool
@@ -76,6 +88,7 @@ MembersAgree {S} C start end =
 pub record Promise {S : Type 0} (C : Cluster S) (start : S) (end : Run S) : Type 0 where
   pub members_agree : MembersAgree C start end
   pub each_fact_is_lawful : EachFactIsLawful C start end
+  pub stands_behind_its_need : StandsBehindItsNeed C start
   pub places_are_apart : PlacesAreApart end
   pub all_are_served : AllAreServed C end
   pub nobody_vanishes : (r : Run S) → Path C (begun start) r → Path C r end → NobodyVanishes r end

@@ -1,7 +1,13 @@
 pub mod Members
+pub mod Links
 pub mod Run
 pub mod Turn
 pub mod Moment
 pub mod Four
 pub mod Lawful
 pub mod Laws
+pub mod Transacting
+pub mod Drives
+pub mod Reads
+pub mod Course
+pub mod Worked

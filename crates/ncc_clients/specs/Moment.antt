@@ -2,6 +2,7 @@
 use Rattle.std.specs.Prelude.{◌≡◌, ◌≤◌, ℕ, Bool, false, List, Some, slice_get}
 use Rattle.ncc_tx.specs.declared.entry.Entry.{Entry}
 use Rattle.ncc_session.specs.declared.ask.Fact.{Fact}
+use Rattle.ncc_clients.specs.Links.{Driving}
 use Rattle.ncc_clients.specs.Members.{Cluster}
 use Rattle.ncc_clients.specs.Run.{Run, Client, reply, tells, proposes, question_of, ticked, opened, fed, told_to, moved, closed_at}
 use Rattle.ncc_clients.specs.Run.{proposed}
@@ -38,6 +39,8 @@ pub data Small {S : Type 0} (C : Cluster S) : Run S → Run S → Type 0 where
       → Small C r (proposed C line r i c (C.propose r.members c.member entry))
   -- the members do something
   Moves : (r : Run S) (members : S) → C.Moves r.members members → Small C r (moved C r members)
+  -- a session of a driver is told something
+  Drives : (r : Run S) (driving : Driving) → Small C r (record r { driving = driving })
   -- a connection is closed
   Closes : (r : Run S) (i : ℕ) (c : Client) → IsOpen r i c → Small C r (closed_at r i c)
 

@@ -17,6 +17,7 @@ use Rattle.ncc_session.specs.Question.{Question, enter, run, leave, leave_noop, 
 use Rattle.ncc_session.specs.Session.{Standing, session, asked_at, is_ended}
 use Rattle.ncc_clients.specs.declared.told.Told.{Told}
 use Rattle.ncc_clients.specs.Members.{Proposed, elsewhere, full, placed, Cluster, applied, at_of, longest, config_of}
+use Rattle.ncc_clients.specs.Links.{Driving, nobody_drives}
 
 -- where an entry was proposed that waits to be applied
 pub record Placing : Type 0 where
@@ -49,9 +50,11 @@ pub record Run (S : Type 0) : Type 0 where
   pub clients : List Client
   -- the facts told, the first of them first
   pub told : List Told
+  -- the sessions of drivers, which make connections and are told what comes of them
+  pub driving : Driving
 
 abbrev pub begun : {S : Type 0} → S → Run S
-begun members = record { now = 0; members = members; history = []; clients = []; told = [] }
+begun members = record { now = 0; members = members; history = []; clients = []; told = []; driving = nobody_drives }
 
 -- ---- a connection: what it wrote, what it asks, and whether it has ended are its session's
 

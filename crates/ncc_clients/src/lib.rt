@@ -5,6 +5,9 @@ mod laws;
 mod members;
 mod told;
 
-pub use laws::{all_is_kept, one_way, rest_forgets_nobody};
+pub use laws::{
+    all_is_kept, one_transaction, one_way, rest_forgets_nobody, sessions_read_their_writes,
+    worked_links,
+};
 pub use members::Members;
 pub use told::Told;

@@ -1,0 +1,11 @@
+use Rattle.ncc_clients.proofs.Waking.{turns_are_courses, wakes_are_courses, pumps_are_courses}
+use Rattle.ncc_clients.proofs.laws.events_are_courses.Goals as goal
+
+pub returns-clause-turns : goal.returns-clause-turns
+returns-clause-turns g c = λ cores replicas id wait. turns_are_courses _
+
+pub returns-clause-wakes : goal.returns-clause-wakes
+returns-clause-wakes g c = λ cores replicas id wait. wakes_are_courses _
+
+pub returns-clause-pumps : goal.returns-clause-pumps
+returns-clause-pumps g c = λ cores replicas id wait. pumps_are_courses _
