@@ -1,8 +1,9 @@
 -- Connections: the question of one, and all of them by their indices.
-use Rattle.std.proofs.Common.{◌≡◌, ◌≢◌, ℕ, zero, suc, ◌+◌, ◌-◌, ◌<◌, ◌^◌, min, List, [], ◌∷◌, ◌++◌, length, get_or, Option, None, Some, Bool, cond}
-use Rattle.std.proofs.Common.{refl, ap, sym, ◌∙◌, subst, map, arith, inl, inr}
+use Rattle.std.proofs.Common.{◌≡◌, ◌≢◌, ℕ, zero, suc, ◌+◌, ◌-◌, ◌<◌, ◌^◌, min, List, [], ◌∷◌, ◌++◌, length, get_or, Option, None, Some}
+use Rattle.std.proofs.Common.{Bool, cond}
+use Rattle.std.proofs.Common.{refl, ap, sym, ◌∙◌, subst, map, arith, inl, inr, nat_eq}
 use Rattle.std.specs.Prelude.{slice_get, slice_set}
-use Rattle.std.specs.List.{AllByRecursion}
+use Rattle.std.specs.List.{AllByRecursion, list_any}
 use Rattle.ncc_session.specs.Question.{Question}
 use Rattle.ncc_session.specs.Session.{Standing, asked_at}
 use Rattle.ncc_session.specs.Talk.{Talk, asked}
@@ -12,15 +13,17 @@ use Rattle.std.proofs.lemmas.List.{get_or-set_same, get_or-set_other, length-set
 use Rattle.std.proofs.lemmas.Bool.Decides.{eqb_tells}
 use Rattle.ncc_world.specs.declared.served.Change.{Change}
 use Rattle.ncc_world.specs.declared.served.Change.TheVariants as change
-use Rattle.ncc_world.specs.Parts.{MayChange, changed, parked_anew}
+use Rattle.ncc_world.specs.Parts.{MayChange, changed, marked, parked_anew}
 use Rattle.ncc_world.proofs.Rooms.{get_or_any, parked_set, parked_other, numbered_set}
 use Rattle.ncc_world.proofs.Tables.{numbers_set}
+use Rattle.ncc_world.proofs.Living.{Marks, live_set}
 use Rattle.ncc_world.specs.declared.setup.Setup.{Setup}
 use Rattle.ncc_world.specs.declared.seen.ConnSeen.{ConnSeen}
 use Rattle.ncc_world.specs.declared.served.Served.{Served}
 use Rattle.ncc_world.specs.Setting.{cluster_of}
 use Rattle.ncc_world.specs.Showing.{conn_seen}
-use Rattle.ncc_world.specs.World.{IsKept, IsClient, AreClients, IsSomewhere, IsThere, KeptClients, AreServed, asked_by, parked_by, parked_of, parked_at, placing_of}
+use Rattle.ncc_world.specs.World.{IsKept, IsClient, AreClients, IsSomewhere, IsThere, KeptClients, AreServed, asked_by, parked_by}
+use Rattle.ncc_world.specs.World.{parked_of, parked_at, placing_of}
 
 core_is : (s : Setup) (v : Served) (seen : ConnSeen) (c : Client) → IsKept s v seen c → (talk_of (cluster_of s) c).core ≡ v.conn.place
 core_is s v seen c k = ap (λ (x : Standing). x.core) k.talk.went
@@ -160,17 +163,19 @@ parked_is s w shown d wait k e =
     ∙ ap (λ (q : Option Question). parked_by d.number (min (d.since + s.wait) (2 ^ 64 - 1)) d.placing q) (asked_is s w shown d k.kept)
 
 pub changed_all : (s : Setup) (count : ℕ) (k : KeptClients) (clients : List Client) (index : ℕ) (c d : Client) (w : Served) (shown : ConnSeen)
-    (room old : List Parked) (wait : ℕ) → AreServed s count k clients → slice_get clients index ≡ Some c → IsThere count c → Same c d
-    → IsClient s w shown d → s.wait ≡ wait → old ≡ get_or k.rooms (shown.member - 1) old
+    (room old : List Parked) (set was : List ℕ) (wait : ℕ) → AreServed s count k clients → slice_get clients index ≡ Some c
+    → IsThere count c → Same c d → IsClient s w shown d → s.wait ≡ wait → old ≡ get_or k.rooms (shown.member - 1) old
     → room ≡ parked_anew shown.conn (parked_by shown.conn (min (w.since + wait) (2 ^ 64 - 1)) (placing_of w.placing) (asked_by w)) old
+    → was ≡ get_or k.live (shown.member - 1) was → Marks shown.conn shown.ended was set
     → AreServed s count (record {
       numbers = k.numbers;
       table = slice_set k.table index w;
       seen = slice_set k.seen index shown;
       rooms = slice_set k.rooms (shown.member - 1) room;
+      live = slice_set k.live (shown.member - 1) set;
     })
     (slice_set clients index d)
-changed_all s count k clients index c d w shown room old wait a there is same client e o f = record {
+changed_all s count k clients index c d w shown room old set was wait a there is same client e o f g marks = record {
   each = clients_set s k.table k.seen clients index w shown d a.each client;
   numbered = numbered_set 1 index clients c d a.numbered there same.number;
   keyed = a.keyed ∙ numbers_set index clients c d there same.number;
@@ -184,6 +189,10 @@ changed_all s count k clients index c d w shown room old wait a there is same cl
     | inl h ↦ own m l h.1
     | inr h ↦ other m l h.1
   ];
+  live_count = length-set k.live (shown.member - 1) set ∙ a.live_count;
+  live = live_set s count k.live clients index (shown.member - 1) c d shown.ended was set a.live_count a.live a.numbered there same.number
+      same.member (omega (arith, at, is.low)) (ap (λ (x : ConnSeen). x.ended) client.seen_is) g
+      (λ n. marks n ∙ ap (λ j. marked j shown.ended n (list_any (nat_eq n) was)) number);
 } where
   at : shown.member ≡ c.member
   at = client.kept.member ∙ same.member

@@ -26,3 +26,6 @@ pub mod Tables
 pub mod Lowering
 pub mod Sending
 pub mod Spelling
+pub mod Living
+pub mod Remembering
+pub mod Rerunning

@@ -1,5 +1,6 @@
 -- How much is left to do: what a change at one connection does to it, and where a proposal is the first.
-use Rattle.std.proofs.Common.{◌≡◌, ℕ, ◌+◌, ◌-◌, ◌<◌, List, [], length, get_or, Bool, true, false, Option, Some, None, map, refl, ap, ◌∙◌, arith}
+use Rattle.std.proofs.Common.{◌≡◌, ℕ, ◌+◌, ◌-◌, ◌<◌, List, [], length, get_or, Bool, true, false, Option, Some, None, map, refl, ap, ◌∙◌}
+use Rattle.std.proofs.Common.{arith}
 use Rattle.std.specs.Prelude.{slice_get, slice_set}
 use Rattle.std.specs.List.{sum_by}
 use Rattle.std.proofs.lemmas.List.Sums.{sum_by-set}
@@ -64,7 +65,8 @@ none_by list now deadline false placing e = absurd (cc)
 none_by list now deadline true None e = refl
 none_by list now deadline true (Some p) e = absurd (not_landed list now p (outcome_of (length list) p.place now deadline) e)
 
-none_for : (s : Setup) (r : ListRun) (c : Client) (entry : Entry) → answers (cluster_of s) r c (leave_of entry) ≡ proposes → c.placing ≡ None
+none_for : (s : Setup) (r : ListRun) (c : Client) (entry : Entry) → answers (cluster_of s) r c (leave_of entry) ≡ proposes
+    → c.placing ≡ None
 none_for s r c e.Noop h = absurd (cc)
 none_for s r c (e.Tx steps told) h =
     none_by (get_or r.members (c.member - 1) []) r.now (deadline_of (cluster_of s) c) (some_writes (map call_of steps)) c.placing h

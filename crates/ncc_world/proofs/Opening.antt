@@ -1,6 +1,6 @@
 -- A connection of which nothing has come.
-use Rattle.std.proofs.Common.{◌≡◌, ℕ, ◌+◌, ◌≤◌, List, [], ◌∷◌, ◌++◌, length, None, Bool, false, refl, ap, sym, ◌∙◌, arith}
-use Rattle.std.specs.Prelude.{is_some}
+use Rattle.std.proofs.Common.{◌≡◌, ℕ, ◌+◌, ◌≤◌, List, [], ◌∷◌, ◌++◌, length, None, Bool, false, refl, ap, sym, ◌∙◌, arith, ◌-◌, get_or}
+use Rattle.std.specs.Prelude.{is_some, slice_set}
 use Rattle.ncc_stream.specs.Stream.{still, going}
 use Rattle.ncc_session.specs.declared.config.ConnConfig.{ConnConfig}
 use Rattle.ncc_session.specs.Question.{Output, bytes_of}
@@ -9,7 +9,7 @@ use Rattle.ncc_session.specs.Talk.{Talk, Stands as TalkStands}
 use Rattle.ncc_session.proofs.Moves.{stays}
 use Rattle.ncc_session.proofs.Shaken.{more_none}
 use Rattle.ncc_clients.specs.Members.{config_of}
-use Rattle.ncc_clients.specs.Run.{Client, question_of, deadline_of}
+use Rattle.ncc_clients.specs.Run.{Client, question_of, deadline_of, has_ended}
 use Rattle.ncc_world.specs.declared.setup.Setup.{Setup}
 use Rattle.ncc_world.specs.declared.seen.ConnSeen.{ConnSeen}
 use Rattle.ncc_world.specs.declared.served.Served.{Served}
@@ -19,6 +19,8 @@ use Rattle.ncc_world.specs.World.{AreServed, IsClient, IsThere, KeptClients, par
 use Rattle.ncc_world.proofs.Keeping.{clients_more, there_more}
 use Rattle.ncc_world.proofs.Rooms.{parked_more, numbered_more}
 use Rattle.ncc_world.proofs.Tables.{numbers_more}
+use Rattle.ncc_world.proofs.Living.{Marks, live_more}
+use Rattle.std.proofs.lemmas.List.{length-set}
 
 -- a session of nothing stands where each session begins
 pub begins : (config : ConnConfig) → session config [] [] ≡ still start [] []
@@ -64,6 +66,9 @@ parks_none s number member now printed =
     let c = fresh number member now printed in
     ap (λ q. parked_by c.number (deadline_of (cluster_of s) c) c.placing q) (asks_none s number member now printed)
 
+goes_on : (s : Setup) (number member now : ℕ) (printed : Bool) → has_ended (cluster_of s) (fresh number member now printed) ≡ false
+goes_on s number member now printed = ap (λ (x : Standing). is_ended x.core.state) (begins (config_of (cluster_of s) number))
+
 -- nothing is held
 pub holds_nothing : (talk : Talk) (config : ConnConfig) → TalkStands talk config [] [] [] → talk.out ≡ []
 holds_nothing talk config k =
@@ -94,15 +99,17 @@ is_client s v number member now printed k = record {
 
 -- with one more connection
 pub opened_one : (s : Setup) (count : ℕ) (k : KeptClients) (clients : List Client) (v : Served) (number member now : ℕ) (printed : Bool)
-    → AreServed s count k clients → number ≡ length clients + 1 → 1 ≤ member → member ≤ count → IsNew s v number now
+    (set was : List ℕ) → AreServed s count k clients → number ≡ length clients + 1 → 1 ≤ member → member ≤ count → IsNew s v number now
+    → was ≡ get_or k.live (member - 1) was → Marks number false was set
     → AreServed s count (record {
       numbers = k.numbers ++ (number ∷ []);
       table = k.table ++ (v ∷ []);
       seen = k.seen ++ (shown number member printed ∷ []);
       rooms = k.rooms;
+      live = slice_set k.live (member - 1) set;
     })
     (clients ++ (fresh number member now printed ∷ []))
-opened_one s count k clients v number member now printed are e low high new = record {
+opened_one s count k clients v number member now printed set was are e low high new f marks = record {
   each = clients_more s k.table k.seen clients v (shown number member printed) (fresh number member now printed) are.each
       (is_client s v number member now printed new);
   numbered = numbered_more 1 clients (fresh number member now printed) are.numbered (omega (arith, e));
@@ -111,4 +118,7 @@ opened_one s count k clients v number member now printed are e low high new = re
   count_is = are.count_is;
   rooms = λ index within. are.rooms index within
       ∙ parked_more s (index + 1) clients (fresh number member now printed) (parks_none s number member now printed);
+  live_count = length-set k.live (member - 1) set ∙ are.live_count;
+  live = live_more s count k.live clients (member - 1) (fresh number member now printed) was set are.live_count are.live
+      (omega (arith, low)) (goes_on s number member now printed) f marks;
 }

@@ -1,5 +1,5 @@
 -- A proposal, and what it does to a run.
-use Rattle.std.proofs.Common.{◌≡◌, ℕ, ◌+◌, ◌-◌, ◌<◌, List, [], length, get_or, Option, Some, Bool, true, false, cond, map}
+use Rattle.std.proofs.Common.{◌≡◌, ℕ, ◌+◌, ◌-◌, ◌<◌, List, [], ◌∷◌, ◌++◌, length, get_or, Option, Some, Bool, true, false, cond, map}
 use Rattle.std.proofs.Common.{refl, ap, sym, ◌∙◌, subst, arith, IsTrue}
 use Rattle.std.specs.Prelude.{slice_get, slice_set, nat_le, ◌==◌}
 use Rattle.std.proofs.lemmas.List.{length-set}
@@ -13,20 +13,24 @@ use Rattle.ncc_session.specs.Core.{leave_of}
 use Rattle.ncc_session.specs.Question.{fits, some_writes}
 use Rattle.ncc_session.specs.Talk.{asked, fits_at}
 use Rattle.ncc_clients.specs.Members.{Proposed, elsewhere, full, placed, longest}
+use Rattle.ncc_clients.specs.Four.{Begins}
 use Rattle.ncc_clients.specs.declared.told.Told.{Told}
 use Rattle.ncc_clients.specs.Run.{Client, Placing, proposes, reply, question_of, answers, leaves, deadline_of, accepted, with_placing}
 use Rattle.ncc_world.specs.declared.setup.Setup.{Setup}
 use Rattle.ncc_world.specs.declared.seen.ConnSeen.{ConnSeen}
+use Rattle.ncc_world.specs.declared.earlier.Earlier.{Earlier}
 use Rattle.ncc_world.specs.declared.served.Place.{Place}
 use Rattle.ncc_world.specs.declared.served.Served.{Served}
 use Rattle.ncc_world.specs.declared.members.Proposal.{Proposal}
 use Rattle.ncc_world.specs.declared.members.Proposal.TheVariants as proposal
 use Rattle.ncc_world.specs.declared.clients.Clients.{Clients}
 use Rattle.ncc_world.specs.declared.running.Running.{Running}
-use Rattle.ncc_world.specs.Setting.{Lists, cluster_of, list_at, appended}
+use Rattle.ncc_world.specs.Setting.{Lists, cluster_of, list_at, item_of, appended}
+use Rattle.ncc_world.specs.Earlier.{AllRemember}
 use Rattle.ncc_world.specs.Happening.{ListRun}
 use Rattle.ncc_world.specs.World.{KeptMembers, KeptClients, KeptRun, AreMembers, AreServed, RunsAs, IsClient}
 use Rattle.ncc_world.specs.Parts.{IsProposed, members_in, clients_in, run_in}
+use Rattle.ncc_world.proofs.Begun.{begins_more, grows_set}
 use Rattle.ncc_world.proofs.Keeping.{get_there, client_at}
 use Rattle.ncc_world.proofs.Turning.{counted, reply_some}
 use Rattle.ncc_world.proofs.Fitting.{fits_here}
@@ -83,13 +87,15 @@ was_full s lists X m p entries k e = full_by s lists X m entries (subst (λ (q :
 
 -- nothing changed but the members, and these stand for the same lists
 pub kept_by : (s : Setup) (r : ListRun) (old new : Running) → RunsAs s (run_in old) r → AreMembers s (members_in new.members) r.members
-    → new.clock ≡ old.clock → new.clients ≡ old.clients → new.told ≡ old.told → RunsAs s (run_in new) r
-kept_by s r old new k m clock clients told = record {
+    → new.clock ≡ old.clock → new.clients ≡ old.clients → new.told ≡ old.told → new.earlier.items ≡ old.earlier.items
+    → RunsAs s (run_in new) r
+kept_by s r old new k m clock clients told earlier = record {
   now = clock ∙ k.now;
   history = sym m.first ∙ k.members.first ∙ k.history;
   members = m;
   clients = subst (λ (x : Clients). AreServed s (length r.members) (clients_in x) r.clients) (sym clients) k.clients;
   told = told ∙ k.told;
+  earlier = subst (λ (es : List (Option Earlier)). AllRemember s es r) (sym earlier) k.earlier;
 }
 
 -- ---- a refusal answers the question
@@ -123,6 +129,7 @@ pub record Accepted (s : Setup) (lists : Lists) (X : Proposed Lists) (p : Place)
   pub members : AreMembers s m after
   pub count : length after ≡ length lists
   pub some : 0 < p.place
+  pub grows : (member : ℕ) → Begins (list_at lists member) (list_at after member)
 
 placed_by : (s : Setup) (lists : Lists) (entry : Entry) (p : Place) (m : KeptMembers) (b d : Bool)
     → IsProposed s lists (cond b (cond d (full (length (list_at lists 1))) (placed (length (list_at lists 1) + 1) 1 (appended lists entry))) elsewhere)
@@ -139,6 +146,8 @@ placed_by s lists entry p m true false k =
       members = k.1;
       count = length-set lists 0 _;
       some = omega (arith, ap (λ (q : Place). q.place) same);
+      grows = λ member.
+          grows_set lists 0 (list_at lists 1 ++ (item_of entry ∷ [])) (begins_more (list_at lists 1) (item_of entry ∷ [])) (member - 1);
     }
 
 pub was_placed : (s : Setup) (lists : Lists) (member : ℕ) (entry : Entry) (m : KeptMembers) (p : Proposal) (place : Place)
@@ -149,7 +158,9 @@ was_placed s lists member entry m p place k e =
     (subst (λ (q : Proposal). IsProposed s lists ((cluster_of s).propose lists member entry) q m) e k)
 
 pub accepted_as : (s : Setup) (r : ListRun) (i : ℕ) (d : Client) (place term : ℕ) (after : Lists) (now : ℕ) (m : KeptMembers) (k : KeptClients)
-    (told : List Told) → now ≡ r.now → m.items ≡ longest r.history after → AreMembers s m after
+    (told : List Told) (es : List (Option Earlier)) → now ≡ r.now → m.items ≡ longest r.history after → AreMembers s m after
     → AreServed s (length after) k (slice_set r.clients i (with_placing r.now d place term)) → told ≡ r.told
-    → RunsAs s (record { now = now; members = m; clients = k; told = told }) (accepted (cluster_of s) r i d place term after)
-accepted_as s r i d place term after now m k told e f g h j = record { now = e; history = f; members = g; clients = h; told = j }
+    → AllRemember s es (accepted (cluster_of s) r i d place term after)
+    → RunsAs s (record { now = now; members = m; clients = k; told = told; earlier = es }) (accepted (cluster_of s) r i d place term after)
+accepted_as s r i d place term after now m k told es e f g h j l =
+    record { now = e; history = f; members = g; clients = h; told = j; earlier = l }

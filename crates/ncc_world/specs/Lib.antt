@@ -4,6 +4,7 @@ pub mod Requests
 pub mod Spellable
 pub mod Happening
 pub mod Showing
+pub mod Earlier
 pub mod World
 pub mod Parts
 pub mod Inner

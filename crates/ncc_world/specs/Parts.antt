@@ -1,15 +1,26 @@
 -- What the parts of a world do. No public clause speaks of it.
-use Rattle.std.specs.Prelude.{◌≡◌, ℕ, ◌+◌, ◌*◌, ◌<◌, Bool, true, false, if◌then◌else◌, nat_lt, List, [], ◌∷◌}
-use Rattle.std.specs.Prelude.{Option, Some, None, IsTrue, is_some}
+use Rattle.std.specs.Prelude.{◌≡◌, ℕ, ◌+◌, ◌*◌, ◌<◌, Bool, true, false, if◌then◌else◌, ◌==◌, not, nat_lt, List, [], ◌∷◌, map, Option}
+use Rattle.std.specs.Prelude.{Some, None, IsTrue, is_some, ◌++◌, Result, IfOk}
 use Rattle.std.specs.List.{sum_by}
 use Rattle.indexmap.specs.IndexMap.{keys, values}
+use Rattle.indexmap.specs.IndexSet.{IndexSet, keys as set_keys}
 use Rattle.ncc_wait.specs.declared.outcomes.Outcome.{Outcome}
 use Rattle.ncc_wait.specs.declared.parked.Parked.{Parked}
 use Rattle.ncc_wait.specs.Room.{put, without}
+use Rattle.ncc_store.specs.declared.call.Call.{Call}
+use Rattle.ncc_store.specs.declared.fault.RunError.{RunError}
+use Rattle.ncc_store.specs.declared.ran.Ran.{Ran}
+use Rattle.ncc_store.specs.Answers.{Gives}
+use Rattle.ncc_store.specs.Delta.{IsOver, applied}
+use Rattle.ncc_store.specs.Exec.{exec}
+use Rattle.ncc_store.specs.Graph.{Graph}
 use Rattle.ncc_tx.specs.declared.entry.Entry.{Entry}
 use Rattle.ncc_session.specs.Talk.{Talk, asked, fits_at, measure}
 use Rattle.ncc_clients.specs.Members.{Proposed, elsewhere, full, placed}
-use Rattle.ncc_clients.specs.Run.{Client, Placing, Reply, waits, tells, proposes, with_bytes, with_fact, with_placing, deadline_of, question_of}
+use Rattle.ncc_clients.specs.Run.{Client, Placing, Reply, waits, tells, proposes, with_bytes, with_fact, with_placing, deadline_of}
+use Rattle.ncc_clients.specs.Run.{question_of, last_rows}
+use Rattle.ncc_tx.specs.declared.entry.Item.{Item}
+use Rattle.ncc_session.specs.Question.{Question, Row}
 use Rattle.ncc_clients.specs.Four.{Begins}
 use Rattle.ncc_clients.specs.Turn.{Turn, AtRest, Does, IsEntryOf, acts}
 use Rattle.ncc_world.specs.declared.setup.Setup.{Setup}
@@ -25,17 +36,33 @@ use Rattle.ncc_world.specs.declared.answer.Reply as declared
 use Rattle.ncc_world.specs.declared.answer.Reply.TheVariants as answer
 use Rattle.ncc_world.specs.declared.running.Running.{Running}
 use Rattle.ncc_world.specs.Setting.{Lists, cluster_of}
+use Rattle.ncc_world.specs.Earlier.{LeftBy, LeftFor}
 use Rattle.ncc_world.specs.Happening.{ListRun}
 use Rattle.ncc_world.specs.World.{KeptMembers, KeptClients, KeptRun, AreMembers, AreServed, RunsAs, placing_of}
 
 abbrev pub members_in : Members → KeptMembers
 members_in m = record { items = m.items; shelves = m.shelves.items; seen = m.seen }
 
+abbrev pub numbers_in : {S : Type 0} → List (IndexSet ℕ S) → List (List ℕ)
+numbers_in sets = map set_keys sets
+
 abbrev pub clients_in : Clients → KeptClients
-clients_in k = record { numbers = keys k.table; table = values k.table; seen = k.seen; rooms = k.rooms.items }
+clients_in k = record {
+  numbers = keys k.table;
+  table = values k.table;
+  seen = k.seen;
+  rooms = k.rooms.items;
+  live = numbers_in k.live.items;
+}
 
 abbrev pub run_in : Running → KeptRun
-run_in w = record { now = w.clock; members = members_in w.members; clients = clients_in w.clients; told = w.told }
+run_in w = record {
+  now = w.clock;
+  members = members_in w.members;
+  clients = clients_in w.clients;
+  told = w.told;
+  earlier = w.earlier.items;
+}
 
 -- it stands for some run
 pub record HasRun (s : Setup) (w : Running) : Type 0 where
@@ -75,6 +102,10 @@ abbrev pub MayChange : Change → Talk → Type 0
 MayChange (change.Told fact) talk = IsTrue (fits_at (asked talk) fact)
 MayChange (change.Placed p) talk = 0 < p.place
 MayChange _ talk = Unit {0}
+
+-- whether numbers have one, where this number was put in or, at its end, taken out
+abbrev pub marked : ℕ → Bool → ℕ → Bool → Bool
+marked number ended n had = if number == n then not ended else had
 
 -- How much is left to do: twice the facts that a session takes at most before more bytes have to come, and one where no entry is proposed.
 -- So each fact lowers it, and each proposal.
@@ -121,8 +152,29 @@ placed_at p = record { place = p.place; term = p.term }
 
 abbrev pub reply_in : declared.Reply → Reply
 reply_in answer.Waits = waits
-reply_in (answer.Tells fact) = tells fact
+reply_in (answer.Tells fact earlier) = tells fact
 reply_in answer.Proposes = proposes
+
+-- what is kept behind an answer to a question, and where nothing is
+abbrev pub LeftIn : List Item → Question → declared.Reply → Type 0
+LeftIn list question (answer.Tells fact earlier) = LeftBy list question fact earlier
+LeftIn list question _ = Unit {0}
+
+abbrev pub KeepsNothing : declared.Reply → Type 0
+KeepsNothing (answer.Tells fact earlier) = earlier ≡ None
+KeepsNothing _ = Unit {0}
+
+-- behind an answer to a connection
+abbrev pub LeftAt : Setup → ListRun → Client → declared.Reply → Type 0
+LeftAt s r c (answer.Tells fact earlier) = LeftFor s r c fact earlier
+LeftAt s r c _ = Unit {0}
+
+-- Steps were run, or the last of them behind what the others left: the rows of the last, what all left, and the first fault are those of
+-- all the calls.
+abbrev pub RunsToLast : Graph → List Call → Result Ran RunError → Type 0
+RunsToLast g calls result =
+    (front : List (List Row)) × Gives (λ r. record { rows = front ++ r.rows; graph = applied r.delta g }) result (exec g calls)
+    × IfOk result (λ r. last_rows (front ++ r.rows) ≡ last_rows r.rows) × IfOk result (λ r. IsOver g r.delta)
 
 -- what a question is answered by, of the connection
 pub record IsAskedOf (s : Setup) (now : ℕ) (member deadline : ℕ) (placing : Option Place) (r : ListRun) (c : Client) : Type 0 where
@@ -139,6 +191,7 @@ pub record Offered (s : Setup) (r : ListRun) (c : Client) (p : Proposal) (old ne
   pub clock : new.clock ≡ old.clock
   pub clients : new.clients ≡ old.clients
   pub told : new.told ≡ old.told
+  pub earlier : new.earlier.items ≡ old.earlier.items
   pub grows : Begins old.members.items new.members.items
 
 -- it stands for a run that this reply makes

@@ -1,7 +1,7 @@
 -- What a world keeps, and the runs that it stands for. It keeps no client's bytes: a connection keeps what it needs of them.
-use Rattle.std.specs.Prelude.{◌≡◌, ℕ, ◌+◌, ◌<◌, ◌≤◌, Bool, true, false, if◌then◌else◌, ◌==◌, List, [], ◌∷◌, ◌++◌, length, map}
-use Rattle.std.specs.Prelude.{Option, Some, None, slice_index_or}
-use Rattle.std.specs.List.{AllByRecursion}
+use Rattle.std.specs.Prelude.{◌≡◌, ℕ, ◌+◌, ◌<◌, ◌≤◌, Bool, true, false, if◌then◌else◌, ◌==◌, nat_eq, ◌&&◌, not}
+use Rattle.std.specs.Prelude.{List, [], ◌∷◌, ◌++◌, length, map, Option, Some, None, slice_index_or}
+use Rattle.std.specs.List.{AllByRecursion, list_any}
 use Rattle.ncc_wait.specs.declared.parked.Parked.{Parked}
 use Rattle.ncc_tx.specs.declared.entry.Item.{Item}
 use Rattle.ncc_apply.specs.Shelf.{Shown as Shelved, Stands as ShelfStands}
@@ -9,18 +9,20 @@ use Rattle.ncc_session.specs.Question.{Question, enter, leave, some_writes}
 use Rattle.ncc_session.specs.Talk.{Stands as TalkStands, asked}
 use Rattle.ncc_clients.specs.declared.told.Told.{Told}
 use Rattle.ncc_clients.specs.Members.{config_of}
-use Rattle.ncc_clients.specs.Run.{Client, Placing, question_of, deadline_of}
+use Rattle.ncc_clients.specs.Run.{Client, Placing, question_of, deadline_of, has_ended}
 use Rattle.ncc_world.specs.declared.setup.Setup.{Setup}
 use Rattle.ncc_world.specs.declared.error.Which.{Which}
 use Rattle.ncc_world.specs.declared.error.WorldError.{WorldError}
 use Rattle.ncc_world.specs.declared.error.WorldError.TheVariants.{Memory, Limit}
 use Rattle.ncc_world.specs.declared.seen.MemberSeen.{MemberSeen}
 use Rattle.ncc_world.specs.declared.seen.ConnSeen.{ConnSeen}
+use Rattle.ncc_world.specs.declared.earlier.Earlier.{Earlier}
 use Rattle.ncc_world.specs.declared.served.Place.{Place}
 use Rattle.ncc_world.specs.declared.served.Served.{Served}
 use Rattle.ncc_world.specs.Setting.{Lists, cluster_of, list_at}
 use Rattle.ncc_world.specs.Happening.{ListRun}
 use Rattle.ncc_world.specs.Showing.{members_from, conn_seen}
+use Rattle.ncc_world.specs.Earlier.{AllRemember}
 
 -- it goes on; or a limit was passed, or memory was wanting, and it answers so from then on
 pub data Standing : Type 0 where
@@ -53,13 +55,14 @@ pub record AreMembers (s : Setup) (m : KeptMembers) (lists : Lists) : Type 0 whe
   pub some : 0 < length lists
   pub seen : m.seen ≡ members_from s 1 lists
 
--- ---- connections: their numbers, what is kept of each, what each shows, and who waits at each member
+-- ---- connections: their numbers, what is kept of each, what each shows, and who waits at each member and has not ended
 
 pub record KeptClients : Type 0 where
   pub numbers : List ℕ
   pub table : List Served
   pub seen : List ConnSeen
   pub rooms : List (List Parked)
+  pub live : List (List ℕ)
 
 abbrev pub placing_of : Option Place → Option Placing
 placing_of None = None
@@ -134,6 +137,10 @@ unfoldable pub parked_at : Setup → ℕ → List Client → List Parked
 parked_at s member [] = []
 parked_at s member (c ∷ cs) = parked_one s member c ++ parked_at s member cs
 
+-- a connection of this number and this member that has not ended
+abbrev pub is_live : Setup → ℕ → ℕ → Client → Bool
+is_live s member number c = (c.number == number) && ((c.member == member) && not (has_ended (cluster_of s) c))
+
 pub record AreServed (s : Setup) (count : ℕ) (k : KeptClients) (clients : List Client) : Type 0 where
   pub each : AreClients s k.table k.seen clients
   pub numbered : AreNumbered 1 clients
@@ -142,6 +149,10 @@ pub record AreServed (s : Setup) (count : ℕ) (k : KeptClients) (clients : List
   pub there : AllByRecursion (IsThere count) clients
   pub count_is : length k.rooms ≡ count
   pub rooms : (index : ℕ) → index < count → slice_index_or k.rooms index [] ≡ parked_at s (index + 1) clients
+  -- each member has exactly the numbers of its connections that have not ended
+  pub live_count : length k.live ≡ count
+  pub live : (index number : ℕ) → index < count
+      → list_any (nat_eq number) (slice_index_or k.live index []) ≡ list_any (is_live s (index + 1) number) clients
 
 -- ---- which runs it stands for
 
@@ -150,6 +161,8 @@ pub record KeptRun : Type 0 where
   pub members : KeptMembers
   pub clients : KeptClients
   pub told : List Told
+  -- what is kept of the transaction that is open at each connection
+  pub earlier : List (Option Earlier)
 
 pub record RunsAs (s : Setup) (k : KeptRun) (r : ListRun) : Type 0 where
   pub now : k.now ≡ r.now
@@ -157,6 +170,7 @@ pub record RunsAs (s : Setup) (k : KeptRun) (r : ListRun) : Type 0 where
   pub members : AreMembers s k.members r.members
   pub clients : AreServed s (length r.members) k.clients r.clients
   pub told : k.told ≡ r.told
+  pub earlier : AllRemember s k.earlier r
 
 pub record Kept : Type 0 where
   pub setup : Setup

@@ -1,13 +1,14 @@
 //! The connections of a world.
 
-ghost use Rattle.std.specs.Prelude.{◌≡◌, ◌+◌, ◌-◌, ◌^◌, ◌<◌, ◌≤◌, ℕ, [], List, Some, min, replicate, length, slice_get, slice_set, slice_index_or, IfOk, OnOk};
+ghost use Rattle.std.specs.Prelude.{◌≡◌, ◌+◌, ◌-◌, ◌^◌, ◌<◌, ◌≤◌, ℕ, [], List, Some, min, nat_eq, replicate, length, slice_get, slice_set, slice_index_or, IfOk, OnOk};
+ghost use Rattle.std.specs.List.{list_any};
 ghost use Rattle.indexmap.specs.IndexMap.{values};
 ghost use Rattle.ncc_session.specs.Core.{question_of};
 ghost use Rattle.ncc_clients.specs.Run.{Client, opened};
 ghost use Rattle.ncc_world.specs.Setting.{IsSetup};
 ghost use Rattle.ncc_world.specs.Happening.{ListRun};
 ghost use Rattle.ncc_world.specs.World.{AreServed, IsClient, asked_by, need_for, parked_by, place_for, placing_of};
-ghost use Rattle.ncc_world.specs.Parts.{HasClients, Lowers, MayChange, changed, clients_in, left_at, left_in, parked_anew};
+ghost use Rattle.ncc_world.specs.Parts.{HasClients, Lowers, MayChange, changed, clients_in, left_at, left_in, marked, numbers_in, parked_anew};
 ghost use Rattle.ncc_world.specs.declared.setup.Setup.{Setup as Setups};
 ghost use Rattle.ncc_world.specs.declared.served.Served.{Served as Serveds};
 
@@ -16,19 +17,21 @@ use crate::seen::{ConnList, ConnSeen};
 use crate::served::{Change, Place, Served, alter, question, show};
 use crate::setup::Setup;
 use crate::taken::taken;
-use indexmap::IndexMap;
+use indexmap::{IndexMap, IndexSet};
 use ncc_pack::{Bytes, Memory, Sequence};
 use ncc_session::{Ask, Conn};
 use ncc_wait::Room;
 use std::alloc::Global;
 
-/// What is kept of each connection, by its number, what each shows, and who waits at each member. They are numbered as they are opened
-/// and none is taken out, so the one of index 0 has the number 1.
+/// What is kept of each connection, by its number, what each shows, and for each member who waits and who has not ended. They are numbered
+/// as they are opened and none is taken out, so the one of index 0 has the number 1.
 #[derive(Drop)]
 pub(crate) struct Clients {
     pub(crate) table: IndexMap<u64, Served>,
     pub(crate) seen: ConnList,
     pub(crate) rooms: Vec<Room>,
+    /// The numbers of the connections of each member that have not ended.
+    pub(crate) live: Vec<IndexSet<u64>>,
 }
 
 // The place of a proposal, 0 where there is none.
@@ -81,16 +84,42 @@ fn rooms(alloc: Global, count: usize) -> Result<Vec<Room>, Memory>
     Ok(rooms)
 }
 
+// As many sets without a number.
+fn no_numbers(alloc: Global, count: usize) -> Result<Vec<IndexSet<u64>>, Memory>
+    ensures empty { IfOk result (λ v. numbers_in v.items ≡ replicate count []) }
+{
+    let mut sets = Vec::new(alloc);
+    for index in 0..count {
+        let _set = index;
+        sets.push(IndexSet::new(alloc))?;
+    }
+    Ok(sets)
+}
+
+// The numbers have one that has not ended, and not one that has.
+fn mark(live: &mut IndexSet<u64>, number: u64, ended: bool) -> Result<(), Memory>
+    ensures ok { OnOk result ((n : ℕ) → list_any (nat_eq n) live.new.keys ≡ marked number ended n (list_any (nat_eq n) live.old.keys)) }
+{
+    if ended {
+        live.swap_remove(&number);
+    } else {
+        live.insert(number)?;
+    }
+    Ok(())
+}
+
 impl Clients {
     /// No connections, at so many members.
     pub(crate) fn new(alloc: Global, count: usize) -> Result<Clients, Memory>
         ensures none { IfOk result (λ k. (s : Setups) → AreServed s count (clients_in k) []) }
     {
         let rooms = rooms(alloc, count)?;
+        let live = no_numbers(alloc, count)?;
         Ok(Clients {
             table: IndexMap::new(alloc),
             seen: Sequence::new(alloc),
             rooms,
+            live,
         })
     }
 
@@ -131,9 +160,13 @@ impl Clients {
         let changed = change_one(&mut self.table[index], &mut list[index], what, now);
         let number = list[index].conn;
         let member = list[index].member;
+        let ended = list[index].ended;
         self.seen = Sequence::from_vec(list);
         changed?;
-        let room = &mut self.rooms[member as usize - 1];
+        let seat = member as usize - 1;
+        let live = &mut self.live[seat];
+        mark(live, number, ended)?;
+        let room = &mut self.rooms[seat];
         park(room, number, &self.table[index], wait)?;
         Ok(())
     }
@@ -149,6 +182,7 @@ impl Clients {
     ) -> Result<(), Memory>
         requires allowed { IsSetup setup.now }
         requires served { HasClients self.old }
+        requires there { (1 ≤ member) × (member ≤ length self.old.live.items) }
         ensures more { OnOk result (length (values self.new.table) ≡ length (values self.old.table) + 1) }
         ensures ok { OnOk result ((r : ListRun) → AreServed setup.now (length r.members) (clients_in self.old) r.clients →
             now ≡ r.now → (1 ≤ member) × (member ≤ length r.members) →
@@ -163,6 +197,8 @@ impl Clients {
             closed: false,
         };
         self.table.insert(number, served)?;
+        let live = &mut self.live[member as usize - 1];
+        mark(live, number, false)?;
         self.seen.push(ConnSeen {
             conn: number,
             member,

@@ -4,6 +4,7 @@
 mod answer;
 mod clients;
 mod config;
+mod earlier;
 mod error;
 mod event;
 mod laws;

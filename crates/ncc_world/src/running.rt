@@ -9,12 +9,14 @@ ghost use Rattle.ncc_clients.specs.Turn.{acts, Settles};
 ghost use Rattle.ncc_world.specs.Setting.{IsSetup, cluster_of, lagging};
 ghost use Rattle.ncc_world.specs.Events.{MayHappen};
 ghost use Rattle.ncc_world.specs.Happening.{ListRun, Happens, start_of, own, refusal, unless, asks, feeds, closes_one, is_member, is_open_made};
+ghost use Rattle.ncc_world.specs.Earlier.{LeftFor};
 ghost use Rattle.ncc_world.specs.World.{RunsAs};
-ghost use Rattle.ncc_world.specs.Parts.{HasRun, TurnBy, Offered, DoesTo, first_acting, left_in, lower, number_of, reply_in, run_in};
+ghost use Rattle.ncc_world.specs.Parts.{HasRun, LeftAt, TurnBy, Offered, DoesTo, first_acting, left_in, lower, number_of, reply_in, run_in};
 ghost use Rattle.ncc_world.specs.declared.served.Served.{Served as Serveds};
 
 use crate::answer::{Reply, answered};
 use crate::clients::Clients;
+use crate::earlier::Earlier;
 use crate::error::WorldError;
 use crate::event::Event;
 use crate::members::{Members, Proposal};
@@ -36,6 +38,8 @@ pub(crate) struct Running {
     pub(crate) members: Members,
     pub(crate) clients: Clients,
     pub(crate) told: Telling,
+    /// What is kept of the transaction that is open at each connection.
+    pub(crate) earlier: Vec<Option<Earlier>>,
 }
 
 // The lower of two numbers.
@@ -62,6 +66,7 @@ impl Running {
             members,
             clients,
             told: Telling::new(alloc),
+            earlier: Vec::new(alloc),
         })
     }
 
@@ -83,6 +88,8 @@ impl Running {
         requires there { index < length (values self.now.clients.table) }
         ensures exact { IfOk result (λ a. (r : ListRun) (c : Client) → RunsAs setup.now (run_in self.now) r → slice_get r.clients index ≡ Some c →
             reply_in a ≡ reply (cluster_of setup.now) r c) }
+        ensures left { IfOk result (λ a. (r : ListRun) (c : Client) → RunsAs setup.now (run_in self.now) r → slice_get r.clients index ≡ Some c →
+            LeftAt setup.now r c a) }
     {
         let served = self.clients.served(index);
         let member = self.clients.shown(index).member;
@@ -94,6 +101,7 @@ impl Running {
                 &self.members,
                 member,
                 ask,
+                &self.earlier[index],
                 served.placing,
                 self.clock,
                 served.since.saturating_add(setup.wait),
@@ -101,11 +109,20 @@ impl Running {
         }
     }
 
-    // Tells the connection at an index a fact that answers its question.
-    fn tell(&mut self, setup: &Setup, line: u64, index: usize, fact: Fact) -> Result<(), Memory>
+    // Tells the connection at an index a fact that answers its question, and keeps what the steps left that were run for it.
+    fn tell(
+        &mut self,
+        setup: &Setup,
+        line: u64,
+        index: usize,
+        fact: Fact,
+        earlier: Option<Earlier>,
+    ) -> Result<(), Memory>
         requires live { HasRun setup.now self.old }
         requires there { index < length (values self.old.clients.table) }
         requires fits { (v : Serveds) → slice_get (values self.old.clients.table) index ≡ Some v → IsTrue (fits_at (asked v.conn) fact) }
+        requires left { (r : ListRun) (c : Client) → RunsAs setup.now (run_in self.old) r → slice_get r.clients index ≡ Some c →
+            LeftFor setup.now r c fact earlier }
         ensures ok { OnOk result ((r : ListRun) (c : Client) → RunsAs setup.now (run_in self.old) r → slice_get r.clients index ≡ Some c →
             RunsAs setup.now (run_in self.new) (told_to line r index c fact)) }
         ensures lowers { OnOk result (left_in self.new.clients < left_in self.old.clients) }
@@ -118,7 +135,9 @@ impl Running {
         };
         self.told.push(told)?;
         self.clients
-            .change(setup.wait, index, Change::Told(fact), self.clock)
+            .change(setup.wait, index, Change::Told(fact), self.clock)?;
+        self.earlier[index] = earlier;
+        Ok(())
     }
 
     // Proposes the entry of the question of the connection at an index at its member.
@@ -156,8 +175,10 @@ impl Running {
         ensures lowers { OnOk result (left_in self.new.clients < left_in self.old.clients) }
     {
         match self.offer(setup, index)? {
-            Proposal::Elsewhere => self.tell(setup, line, index, Fact::Elsewhere)?,
-            Proposal::Full(entries) => self.tell(setup, line, index, Fact::Full { entries })?,
+            Proposal::Elsewhere => self.tell(setup, line, index, Fact::Elsewhere, None)?,
+            Proposal::Full(entries) => {
+                self.tell(setup, line, index, Fact::Full { entries }, None)?
+            }
             Proposal::Placed(place) => {
                 let now = self.clock;
                 self.clients
@@ -184,7 +205,7 @@ impl Running {
     {
         match self.reply_at(alloc, setup, index)? {
             Reply::Waits => Ok(()),
-            Reply::Tells(fact) => self.tell(setup, line, index, fact),
+            Reply::Tells(fact, earlier) => self.tell(setup, line, index, fact, earlier),
             Reply::Proposes => self.propose(setup, line, index),
         }
     }
@@ -303,12 +324,15 @@ impl Running {
     ) -> Result<(), Memory>
         requires allowed { IsSetup setup.now }
         requires live { HasRun setup.now self.old }
-        ensures ok { OnOk result ((r : ListRun) → RunsAs setup.now (run_in self.old) r → is_member r member ≡ true →
+        requires there { (r : ListRun) → RunsAs setup.now (run_in self.old) r → is_member r member ≡ true }
+        ensures ok { OnOk result ((r : ListRun) → RunsAs setup.now (run_in self.old) r →
             RunsAs setup.now (run_in self.new) (opened r member printed)) }
         ensures more { OnOk result (length (values self.new.clients.table) ≡ length (values self.old.clients.table) + 1) }
     {
         let now = self.clock;
-        self.clients.open(alloc, setup, member, printed, now)
+        self.clients.open(alloc, setup, member, printed, now)?;
+        self.earlier.push(None)?;
+        Ok(())
     }
 
     // A client connects to a member, and sends all that it has to say.

@@ -1,4 +1,5 @@
 use Rattle.std.proofs.Common.{◌∙◌, ap, sym, Bool, cond, length, map}
+use Rattle.std.proofs.lemmas.Result.{IfOk-weaker}
 use Rattle.ncc_store.specs.Exec.{call_of, exec}
 use Rattle.ncc_tx.specs.State.{state}
 use Rattle.ncc_session.specs.declared.ask.Fact.TheVariants.{Elsewhere}
@@ -6,12 +7,15 @@ use Rattle.ncc_clients.specs.Run.{tells, ran}
 use Rattle.ncc_world.proofs.answer.rows.Goals as goal
 
 pub returns-then-is_refused : goal.returns-then-is_refused
-returns-then-is_refused c = λ s lists h k.
-    ap (λ (b : Bool). cond b (tells Elsewhere) (tells (ran (length h) (exec (state h) (map call_of c.args.steps.now)))))
-    (sym c.if-is_refused.true ∙ c.is_refused.ensures s lists)
+returns-then-is_refused c = record {
+  exact = λ s lists h k.
+      ap (λ (b : Bool). cond b (tells Elsewhere) (tells (ran (length h) (exec (state h) (map call_of c.args.steps.now)))))
+      (sym c.if-is_refused.true ∙ c.is_refused.ensures s lists);
+  left = λ h k. tt;
+}
 
-pub returns : goal.returns
-returns c = λ s lists h k.
-    ap tells (c.in_ok-run.ensures h k)
+pub returns-clause-exact : goal.returns-clause-exact
+returns-clause-exact c = IfOk-weaker c.run.result _ _ (λ a f s lists h k.
+    f h k
     ∙ ap (λ (b : Bool). cond b (tells Elsewhere) (tells (ran (length h) (exec (state h) (map call_of c.args.steps.now)))))
-    (sym c.if-is_refused.false ∙ c.is_refused.ensures s lists)
+    (sym c.if-is_refused.false ∙ c.is_refused.ensures s lists)) c.run.ensures.exact

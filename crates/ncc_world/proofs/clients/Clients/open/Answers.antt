@@ -1,6 +1,8 @@
-use Rattle.std.proofs.Common.{◌≡◌, ◌∙◌, ◌+◌, ◌++◌, ◌∷◌, [], ℕ, List, None, false, nat_eq, length, ap, sym, subst, arith, refl}
+use Rattle.std.proofs.Common.{◌≡◌, ◌∙◌, ◌+◌, ◌-◌, ◌<◌, ◌++◌, ◌∷◌, [], ℕ, List, None, false, nat_eq, length, ap, sym, subst, arith, refl}
 use Rattle.std.proofs.lemmas.Result.{on_ok_weaker}
-use Rattle.std.proofs.lemmas.List.{length-append}
+use Rattle.std.proofs.lemmas.List.{length-append, length-map}
+use Rattle.std.specs.Prelude.{slice_set}
+use Rattle.indexmap.specs.IndexSet.{keys as set_keys}
 use Rattle.std.proofs.lemmas.Map.Entries.{length-values_of}
 use Rattle.std.specs.Map.{keys_of, values_of}
 use Rattle.indexmap.specs.IndexMap.{get, values}
@@ -10,10 +12,10 @@ use Rattle.ncc_session.specs.Talk.{Stands as TalkStands}
 use Rattle.ncc_world.specs.declared.seen.ConnSeen.{ConnSeen}
 use Rattle.ncc_world.specs.declared.served.Served.{Served}
 use Rattle.ncc_world.specs.World.{AreServed}
-use Rattle.ncc_world.specs.Parts.{clients_in}
+use Rattle.ncc_world.specs.Parts.{clients_in, numbers_in}
 use Rattle.ncc_world.proofs.Keeping.{clients_count}
 use Rattle.ncc_world.proofs.Opening.{IsNew, fresh, shown, opened_one}
-use Rattle.ncc_world.proofs.Tables.{absent, keys_more, values_more}
+use Rattle.ncc_world.proofs.Tables.{absent, keys_more, map_at, map_set, values_more}
 use Rattle.ncc_world.proofs.clients.Clients.open.Goals as goal
 
 pub returns-clause-more : goal.returns-clause-more
@@ -43,8 +45,14 @@ returns-clause-ok c = on_ok_weaker c.push.result (λ e r are now_is bounds.
       placing = refl;
       closed = refl;
     } in
-    let one = opened_one c.args.setup.now (length r.members) k r.clients v n c.args.member c.args.now c.args.printed are
-    numbered bounds.0 bounds.1 new in
+    let lives = c.args.self.now.live.items in
+    let at = c.args.member - 1 in
+    let was = c.index_mut-live.result.now in
+    let within : at < length lives = omega (arith, bounds.0, bounds.1, are.live_count, length-map lives set_keys) in
+    let now_live = slice_set (numbers_in lives) at (set_keys c.mark.new.live) in
+    let one = opened_one c.args.setup.now (length r.members) k r.clients v n c.args.member c.args.now c.args.printed
+    (set_keys c.mark.new.live) (set_keys was) are numbered bounds.0 bounds.1 new
+    (map_at set_keys lives at was within c.index_mut-live.ensures.value) c.in_ok-mark.ensures.ok in
     let seen : c.push.new.self ≡ k.seen ++ (shown n c.args.member c.args.printed ∷ []) =
     e ∙ ap (λ (out : List ℕ). k.seen ++ (record {
       conn = n;
@@ -56,24 +64,33 @@ returns-clause-ok c = on_ok_weaker c.push.result (λ e r are now_is bounds.
     } ∷ [])) c.new-2.ensures.empty in
     let keys_are : keys_of c.insert.new.self.entries ≡ k.numbers ++ (n ∷ []) = ap keys_of es ∙ keys_more m.entries n v in
     let values_are : values_of c.insert.new.self.entries ≡ k.table ++ (v ∷ []) = ap values_of es ∙ values_more m.entries n v in
-    subst (λ (x : List ℕ). AreServed c.args.setup.now (length r.members)
-    (record { numbers = x; table = values_of c.insert.new.self.entries; seen = c.push.new.self; rooms = k.rooms })
+    subst (λ (x : List (List ℕ)). AreServed c.args.setup.now (length r.members) (record {
+      numbers = keys_of c.insert.new.self.entries;
+      table = values_of c.insert.new.self.entries;
+      seen = c.push.new.self;
+      rooms = k.rooms;
+      live = x;
+    }) (r.clients ++ (fresh (length r.clients + 1) c.args.member r.now c.args.printed ∷ []))) (sym (map_set set_keys lives at c.mark.new.live))
+    (subst (λ (x : List ℕ). AreServed c.args.setup.now (length r.members)
+    (record { numbers = x; table = values_of c.insert.new.self.entries; seen = c.push.new.self; rooms = k.rooms; live = now_live })
     (r.clients ++ (fresh (length r.clients + 1) c.args.member r.now c.args.printed ∷ []))) (sym keys_are)
     (subst (λ (x : List Served). AreServed c.args.setup.now (length r.members)
-    (record { numbers = k.numbers ++ (n ∷ []); table = x; seen = c.push.new.self; rooms = k.rooms })
+    (record { numbers = k.numbers ++ (n ∷ []); table = x; seen = c.push.new.self; rooms = k.rooms; live = now_live })
     (r.clients ++ (fresh (length r.clients + 1) c.args.member r.now c.args.printed ∷ []))) (sym values_are)
     (subst (λ (x : List ConnSeen). AreServed c.args.setup.now (length r.members)
-    (record { numbers = k.numbers ++ (n ∷ []); table = k.table ++ (v ∷ []); seen = x; rooms = k.rooms })
+    (record { numbers = k.numbers ++ (n ∷ []); table = k.table ++ (v ∷ []); seen = x; rooms = k.rooms; live = now_live })
     (r.clients ++ (fresh (length r.clients + 1) c.args.member r.now c.args.printed ∷ []))) (sym seen)
     (subst (λ (i : ℕ). AreServed c.args.setup.now (length r.members) (record {
       numbers = k.numbers ++ (n ∷ []);
       table = k.table ++ (v ∷ []);
       seen = k.seen ++ (shown n c.args.member c.args.printed ∷ []);
       rooms = k.rooms;
+      live = now_live;
     }) (r.clients ++ (fresh i c.args.member r.now c.args.printed ∷ []))) numbered
     (subst (λ (i : ℕ). AreServed c.args.setup.now (length r.members) (record {
       numbers = k.numbers ++ (n ∷ []);
       table = k.table ++ (v ∷ []);
       seen = k.seen ++ (shown n c.args.member c.args.printed ∷ []);
       rooms = k.rooms;
-    }) (r.clients ++ (fresh n c.args.member i c.args.printed ∷ []))) now_is one))))) c.push.ensures.ok
+      live = now_live;
+    }) (r.clients ++ (fresh n c.args.member i c.args.printed ∷ []))) now_is one)))))) c.push.ensures.ok

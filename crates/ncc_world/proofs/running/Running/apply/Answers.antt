@@ -1,10 +1,12 @@
-use Rattle.std.proofs.Common.{◌≡◌, ◌<◌, ◌∙◌, sym, subst, arith, append-nil, List, [], ◌++◌}
+use Rattle.std.proofs.Common.{◌≡◌, ◌<◌, ◌∙◌, sym, subst, arith, append-nil, List, [], ◌++◌, ◌-◌, take, drop, length}
 use Rattle.ncc_world.specs.World.{AreServed}
-use Rattle.ncc_world.specs.Setting.{lagging}
+use Rattle.ncc_world.specs.Setting.{lagging, extended, list_at}
 use Rattle.ncc_world.specs.Parts.{clients_in}
 use Rattle.std.proofs.lemmas.List.{length-set}
 use Rattle.ncc_tx.specs.declared.entry.Item.{Item}
 use Rattle.ncc_world.proofs.Listing.{shelf_count, longest_is}
+use Rattle.ncc_world.proofs.Begun.{begins_more, grows_set}
+use Rattle.ncc_world.proofs.Remembering.{all_grown}
 use Rattle.ncc_world.proofs.Happened.{member_ends}
 use Rattle.ncc_world.proofs.running.Running.apply.Goals as goal
 
@@ -33,5 +35,9 @@ returns c = record {
         members = now;
         clients = subst (λ n. AreServed s n (clients_in c.args.self.now.clients) r.clients) (sym (length-set r.members _ _)) k.clients;
         told = k.told;
+        earlier = all_grown s c.args.self.now.earlier.items r lists k.earlier
+            (λ m. grows_set r.members (c.args.member - 1) (extended (list_at r.members c.args.member) (list_at r.members 1) c.args.count)
+            (begins_more (list_at r.members c.args.member)
+            (take c.args.count (drop (length (list_at r.members c.args.member)) (list_at r.members 1)))) (m - 1));
       };
 }

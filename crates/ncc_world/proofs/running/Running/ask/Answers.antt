@@ -21,7 +21,7 @@ returns c = record {
       let n = counted c.args.setup.now (run_in c.args.self.now) r k in
       let index : c.len-index.result ≡ length r.clients =
       omega (arith, c.len-index.ensures.len, n.table, length-values_of c.args.self.now.clients.table.entries) in
-      let fed = f o (c.in_ok-open.ensures.ok r k (c.requires.there r k)) in
+      let fed = f o (c.in_ok-open.ensures.ok r k) in
       subst (λ (i : ℕ). RunsAs c.args.setup.now (run_in c.feed.new.self) (feeds c.args.setup.now o i (client_bytes c.args.request.now))) index
       (subst (λ (b : List ℕ). RunsAs c.args.setup.now (run_in c.feed.new.self) (feeds c.args.setup.now o c.len-index.result b))
       c.in_ok-bytes.ensures fed)) c.feed.ensures.ok;

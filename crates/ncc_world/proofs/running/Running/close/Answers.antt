@@ -1,7 +1,9 @@
-use Rattle.std.proofs.Common.{◌∙◌, sym, refl, subst, length}
+use Rattle.std.proofs.Common.{◌∙◌, sym, refl, subst, length, true}
 use Rattle.ncc_world.specs.Happening.{ListRun}
 use Rattle.ncc_world.specs.World.{RunsAs}
+use Rattle.ncc_world.specs.Setting.{list_at}
 use Rattle.ncc_world.specs.Parts.{run_in, clients_in, members_in}
+use Rattle.ncc_world.proofs.Remembering.{one_changes, closed_remembers}
 use Rattle.ncc_world.proofs.Happened.{sits_at, closed_same, closed_now}
 use Rattle.ncc_world.proofs.running.Running.close.Goals as goal
 
@@ -24,6 +26,7 @@ returns c = record {
         members = members_in c.args.self.now.members;
         clients = clients_in c.change.new.self;
         told = c.args.self.now.told;
+        earlier = c.args.self.now.earlier.items;
       }) x)
       (closed_now r c.args.index h.client h.there (sym h.is.kept.closed ∙ c.if-served.false)) (record {
         now = k.now;
@@ -31,5 +34,7 @@ returns c = record {
         members = k.members;
         clients = c.in_ok-change.ensures.ok s (length r.members) r.clients h.client k.clients h.there refl;
         told = k.told;
+        earlier = one_changes s c.args.self.now.earlier.items r c.args.index h.client (record h.client { closed = true }) k.earlier h.there
+            (λ o. closed_remembers s (list_at r.members h.client.member) h.client o);
       });
 }

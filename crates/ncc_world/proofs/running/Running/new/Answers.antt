@@ -1,6 +1,10 @@
-use Rattle.std.proofs.Common.{◌∙◌, ◌+◌, [], ℕ, refl, sym, subst}
+use Rattle.std.proofs.Common.{◌∙◌, ◌+◌, [], ℕ, refl, sym, subst, List, Option}
+use Rattle.ncc_world.specs.declared.earlier.Earlier.{Earlier}
+use Rattle.ncc_world.specs.Earlier.{AllRemember}
+use Rattle.ncc_world.specs.Happening.{start_of}
 use Rattle.ncc_world.specs.World.{AreServed}
 use Rattle.ncc_world.specs.Parts.{clients_in}
+use Rattle.ncc_world.proofs.Remembering.{none_remember}
 use Rattle.ncc_world.proofs.Firstly.{first_list, empties_count}
 use Rattle.ncc_world.proofs.running.Running.new.Goals as goal
 
@@ -16,5 +20,6 @@ returns c =
         clients = subst (λ (k : ℕ). AreServed s k (clients_in c.in_ok-clients.clients) []) (sym (empties_count n))
             (c.in_ok-clients.ensures.none s);
         told = c.new-3.ensures.empty;
+        earlier = subst (λ (es : List (Option Earlier)). AllRemember s es (start_of s)) (sym c.new-4.ensures.items) (none_remember s);
       };
     }

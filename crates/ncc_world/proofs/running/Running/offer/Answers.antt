@@ -85,6 +85,7 @@ returns-in_ok-proposal-in-Leave c = record {
         clock = refl;
         clients = refl;
         told = refl;
+        earlier = refl;
         grows = c.in_ok-proposal-in-Leave.ensures.only_grows;
       };
 }

@@ -1,16 +1,19 @@
-use Rattle.std.proofs.Common.{◌≡◌, ◌∙◌, ap, sym, refl, Some, subst, length, arith, List, ◌<◌, ◌++◌}
+use Rattle.std.proofs.Common.{◌≡◌, ◌∙◌, ap, sym, refl, Some, subst, length, arith, List, ◌<◌, ◌++◌, Option}
 use Rattle.std.specs.Prelude.{slice_get, slice_set}
 use Rattle.indexmap.specs.IndexMap.{values}
 use Rattle.ncc_tx.specs.declared.entry.Item.{Item}
 use Rattle.ncc_clients.specs.Members.{Proposed}
-use Rattle.ncc_clients.specs.Run.{proposed, with_placing}
+use Rattle.ncc_clients.specs.Run.{proposed, with_placing, accepted}
 use Rattle.ncc_world.specs.declared.clients.Clients.{Clients}
+use Rattle.ncc_world.specs.declared.earlier.Earlier.{Earlier}
 use Rattle.ncc_world.specs.Setting.{Lists, cluster_of}
+use Rattle.ncc_world.specs.Earlier.{AllRemember}
 use Rattle.ncc_world.specs.World.{RunsAs, AreServed}
 use Rattle.ncc_world.specs.Parts.{left_in, run_in, members_in, clients_in}
 use Rattle.ncc_world.proofs.Listing.{longest_is}
 use Rattle.ncc_world.proofs.Keeping.{get_there}
 use Rattle.ncc_world.proofs.Turning.{counted}
+use Rattle.ncc_world.proofs.Remembering.{all_accepted}
 use Rattle.ncc_world.proofs.Proposing.{sits, was_elsewhere, was_full, was_placed, kept_by, accepted_as, elsewhere_fits, full_fits}
 use Rattle.ncc_world.proofs.Lowering.{unplaced}
 use Rattle.ncc_world.proofs.running.Running.propose.Goals as goal
@@ -26,7 +29,7 @@ tell-requires-clause-live c =
     record {
       run = r;
       runs_as = kept_by s r c.args.self.now c.offer.new.self k
-          (was_elsewhere s r.members _ _ c.in_ok-offer.field-0 o.proposed_so c.in-Elsewhere.is).members o.clock o.clients o.told;
+          (was_elsewhere s r.members _ _ c.in_ok-offer.field-0 o.proposed_so c.in-Elsewhere.is).members o.clock o.clients o.told o.earlier;
     }
 
 pub tell-requires-clause-there : goal.tell-requires-clause-there
@@ -63,7 +66,7 @@ tell-requires-in-Full-clause-live c =
     record {
       run = r;
       runs_as = kept_by s r c.args.self.now c.offer.new.self k
-          (was_full s r.members _ _ c.in_ok-offer.field-0 c.in-Full.entries o.proposed_so c.in-Full.is).members o.clock o.clients o.told;
+          (was_full s r.members _ _ c.in_ok-offer.field-0 c.in-Full.entries o.proposed_so c.in-Full.is).members o.clock o.clients o.told o.earlier;
     }
 
 pub tell-requires-in-Full-clause-there : goal.tell-requires-in-Full-clause-there
@@ -95,7 +98,7 @@ returns-in_ok-tell-in-Elsewhere c = record {
       let s = c.args.setup.now in
       let o = c.in_ok-offer.ensures.ok r d k there in
       let q = was_elsewhere s r.members _ _ c.in_ok-offer.field-0 o.proposed_so c.in-Elsewhere.is in
-      let mid = kept_by s r c.args.self.now c.offer.new.self k q.members o.clock o.clients o.told in (
+      let mid = kept_by s r c.args.self.now c.offer.new.self k q.members o.clock o.clients o.told o.earlier in (
         proposed (cluster_of s) c.args.line r c.args.index d ((cluster_of s).propose r.members d.member o.entry),
         (o.entry, o.entry_is, refl),
         subst (λ (x : Proposed Lists). RunsAs s (run_in c.tell.new.self) (proposed (cluster_of s) c.args.line r c.args.index d x)) (sym q.becomes)
@@ -116,7 +119,7 @@ returns-in_ok-tell-in-Full c = record {
       let s = c.args.setup.now in
       let o = c.in_ok-offer.ensures.ok r d k there in
       let q = was_full s r.members _ _ c.in_ok-offer.field-0 c.in-Full.entries o.proposed_so c.in-Full.is in
-      let mid = kept_by s r c.args.self.now c.offer.new.self k q.members o.clock o.clients o.told in (
+      let mid = kept_by s r c.args.self.now c.offer.new.self k q.members o.clock o.clients o.told o.earlier in (
         proposed (cluster_of s) c.args.line r c.args.index d ((cluster_of s).propose r.members d.member o.entry),
         (o.entry, o.entry_is, refl),
         subst (λ (x : Proposed Lists). RunsAs s (run_in c.tell-in-Full.new.self) (proposed (cluster_of s) c.args.line r c.args.index d x)) (sym q.becomes)
@@ -130,6 +133,12 @@ returns-in_ok-tell-in-Full c = record {
       let o = c.in_ok-offer.ensures.ok r d.0 k d.1 in
       subst (λ (x : Clients). left_in c.tell-in-Full.new.self.clients < left_in x) o.clients c.in_ok-tell-in-Full.ensures.lowers;
 }
+
+pub tell-requires-clause-left : goal.tell-requires-clause-left
+tell-requires-clause-left c = λ r d k there q asks. tt
+
+pub tell-requires-in-Full-clause-left : goal.tell-requires-in-Full-clause-left
+tell-requires-in-Full-clause-left c = λ r d k there q asks. tt
 
 pub change-requires-clause-there : goal.change-requires-clause-there
 change-requires-clause-there c =
@@ -181,9 +190,11 @@ returns-in_ok-change-in-Placed c = record {
       let three = subst (λ n. AreServed s n (clients_in c.change.new.self) (slice_set r.clients i (with_placing r.now d p.place p.term)))
       (sym q.count) two in
       let all = accepted_as s r i d p.place p.term q.after c.offer.new.self.clock (members_in c.offer.new.self.members)
-      (clients_in c.change.new.self) c.offer.new.self.told (o.clock ∙ k.now)
+      (clients_in c.change.new.self) c.offer.new.self.told c.offer.new.self.earlier.items (o.clock ∙ k.now)
       (sym (longest_is r.history o.grows.0 c.offer.new.self.members.items _ q.after q.members.shelves q.members.first q.members.some
-      (ap (λ (h : List Item). h ++ o.grows.0) (sym k.history) ∙ o.grows.1))) q.members three (o.told ∙ k.told) in (
+      (ap (λ (h : List Item). h ++ o.grows.0) (sym k.history) ∙ o.grows.1))) q.members three (o.told ∙ k.told)
+      (subst (λ (es : List (Option Earlier)). AllRemember s es (accepted (cluster_of s) r i d p.place p.term q.after)) (sym o.earlier)
+      (all_accepted s c.args.self.now.earlier.items r i d p.place p.term q.after k.earlier there q.grows)) in (
         proposed (cluster_of s) c.args.line r i d ((cluster_of s).propose r.members d.member o.entry),
         (o.entry, o.entry_is, refl),
         subst (λ (x : Proposed Lists). RunsAs s (record {
@@ -191,6 +202,7 @@ returns-in_ok-change-in-Placed c = record {
           members = members_in c.offer.new.self.members;
           clients = clients_in c.change.new.self;
           told = c.offer.new.self.told;
+          earlier = c.offer.new.self.earlier.items;
         }) (proposed (cluster_of s) c.args.line r i d x)) (sym q.becomes) all,
       );
   lowers =

@@ -1,9 +1,17 @@
-use Rattle.std.proofs.Common.{◌∙◌, sym, arith, refl}
+use Rattle.std.proofs.Common.{◌∙◌, sym, arith, refl, ◌≡◌, ap, length, Some, Option}
+use Rattle.std.proofs.Common.{subst}
 use Rattle.std.proofs.lemmas.Result.{IfOk-weaker}
 use Rattle.ncc_world.proofs.Listing.{shelf_count}
 use Rattle.ncc_session.specs.Core.{question_of as asks_of}
-use Rattle.ncc_world.specs.Parts.{run_in}
+use Rattle.std.proofs.lemmas.Option.{slice_get_read}
+use Rattle.std.specs.Prelude.{slice_get}
+use Rattle.ncc_session.specs.Question.{Question}
+use Rattle.ncc_world.specs.declared.earlier.Earlier.{Earlier}
+use Rattle.ncc_world.specs.Earlier.{IsFrom}
+use Rattle.ncc_world.specs.Setting.{list_at}
+use Rattle.ncc_world.specs.Parts.{run_in, LeftIn}
 use Rattle.ncc_world.proofs.Keeping.{asked_is}
+use Rattle.ncc_world.proofs.Remembering.{asks_as_served, from_kept, left_at}
 use Rattle.ncc_world.proofs.Turning.{counted, here, client_is, reply_none, reply_some, asked_so}
 use Rattle.ncc_world.proofs.running.Running.reply_at.Goals as goal
 
@@ -19,10 +27,28 @@ answered-requires c =
     let h = here c.args.setup.now (run_in c.args.self.now) r c.args.index c.served-served.result.now c.shown.result.now k c.requires.there
     c.served-served.ensures.is c.shown.ensures.shown in
     let n = shelf_count _ _ r.members k.members.shelves in
-    record { there = (omega (arith, h.placed.low, h.is.kept.member), omega (arith, h.placed.high, h.is.kept.member, n)) }
+    let table = counted c.args.setup.now (run_in c.args.self.now) r k in
+    let es = c.args.self.now.earlier.items in
+    let o : Option Earlier = c.index.result.now in
+    let at : slice_get es c.args.index ≡ Some o =
+    slice_get_read es (length es) c.args.index o refl (omega (arith, k.earlier.count, table.table, c.requires.there)) c.index.ensures in
+    record {
+      from = (
+        r.members,
+        k.members,
+        λ calls e.
+            subst (λ m. IsFrom (list_at r.members m) calls o) (sym h.is.kept.member)
+            (from_kept c.args.setup.now (list_at r.members h.client.member) h.client o calls
+            (k.earlier.each c.args.index h.client o h.there at)
+            (asks_as_served c.args.setup.now c.served-served.result.now c.shown.result.now h.client (asks_of c.in-Some.ask.now) h.is
+            c.in-Some.ensures.some ∙ ap (λ (q : Question). Some q) e)),
+      );
+      there = (omega (arith, h.placed.low, h.is.kept.member), omega (arith, h.placed.high, h.is.kept.member, n));
+    }
 
 pub returns-in-None : goal.returns-in-None
 returns-in-None c = record {
+  left = λ r d k there. tt;
   exact = λ r d k there.
       let client = client_is c.args.setup.now (run_in c.args.self.now) r c.args.index c.served-served.result.now c.shown.result.now d k there
       c.served-served.ensures.is c.shown.ensures.shown in
@@ -31,6 +57,13 @@ returns-in-None c = record {
 
 pub returns-in-Some : goal.returns-in-Some
 returns-in-Some c = record {
+  left = IfOk-weaker c.answered.result _ _ (λ a f r d k there.
+      let s = c.args.setup.now in
+      let client = client_is s (run_in c.args.self.now) r c.args.index c.served-served.result.now c.shown.result.now d k there
+      c.served-served.ensures.is c.shown.ensures.shown in
+      left_at s r d a (asks_of c.in-Some.ask.now)
+      (asks_as_served s c.served-served.result.now c.shown.result.now d (asks_of c.in-Some.ask.now) client c.in-Some.ensures.some)
+      (subst (λ m. LeftIn (list_at r.members m) (asks_of c.in-Some.ask.now) a) client.kept.member (f r.members k.members))) c.answered.ensures.left;
   exact = IfOk-weaker c.answered.result _ _ (λ a f r d k there.
       let client = client_is c.args.setup.now (run_in c.args.self.now) r c.args.index c.served-served.result.now c.shown.result.now d k there
       c.served-served.ensures.is c.shown.ensures.shown in

@@ -42,6 +42,10 @@ ask-requires-in-Get-clause-fits c =
     subst (λ (q : Request). IsTrue (fits_request q)) (sym c.in_ok-request-in-Get.ensures)
     (get_fits c.in-Get.key c.in-Get.bookmarks may.0 may.2)
 
+pub open-requires-clause-there : goal.open-requires-clause-there
+open-requires-clause-there c = λ r k.
+    allowed_by (is_member r c.in-Open.member) NoMember (ap (refusal r) (sym c.in-Open.is) ∙ c.requires.taken r k)
+
 pub returns-in-Time : goal.returns-in-Time
 returns-in-Time c = record {
   ok = λ r k.
@@ -52,6 +56,7 @@ returns-in-Time c = record {
         members = k.members;
         clients = k.clients;
         told = k.told;
+        earlier = record { count = k.earlier.count; each = k.earlier.each };
       });
 }
 
@@ -85,8 +90,7 @@ pub returns-in-Open : goal.returns-in-Open
 returns-in-Open c = record {
   ok = on_ok_weaker c.open.result (λ f r k.
       let e = own_open c.args.setup.now r c.in-Open.member ∙ ap (λ (x : Event). own c.args.setup.now x r) (sym c.in-Open.is) in
-      let there = allowed_by (is_member r c.in-Open.member) NoMember (ap (refusal r) (sym c.in-Open.is) ∙ c.requires.taken r k) in
-      subst (RunsAs c.args.setup.now (run_in c.open.new.self)) e (f r k there)) c.open.ensures.ok;
+      subst (RunsAs c.args.setup.now (run_in c.open.new.self)) e (f r k)) c.open.ensures.ok;
 }
 
 pub returns-in_ok-piece-in-Bytes : goal.returns-in_ok-piece-in-Bytes
