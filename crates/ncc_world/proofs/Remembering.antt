@@ -241,6 +241,22 @@ one_changes s es r i c d k there h = record {
       subst (λ (y : Client). Remembers s (list_at r.members y.member) y o) e.1 (h o (k.each i c o there at))
   go j x o (inr e) f = k.each j x o e.1 f
 
+-- nothing is kept of one connection any more
+pub one_forgotten : (s : Setup) (es : List (Option Earlier)) (r : ListRun) (i : ℕ) → AllRemember s es r → i < length es
+    → AllRemember s (slice_set es i None) r
+one_forgotten s es r i k within = record {
+  count = set_length es i None ∙ k.count;
+  each = λ j x y e f. go j x y e (get_set es i None j y f);
+} where
+  go : (j : ℕ) (x : Client) (y : Option Earlier) → slice_get r.clients j ≡ Some x
+      → ((j ≡ i) × (None ≡ y)) ⊎ ((j ≢ i) × (slice_get es j ≡ Some y)) → Remembers s (list_at r.members x.member) x y
+  go j x y e (inl f) =
+      let old = get_there es i within in
+      let at : slice_get es j ≡ Some old.0 = ap (λ n. slice_get es n) f.0 ∙ old.1 in
+      let was : Remembers s (list_at r.members x.member) x old.0 = k.each j x old.0 e at in
+      subst (Remembers s (list_at r.members x.member) x) f.1 (record { in_turn = was.in_turn; kept = tt })
+  go j x y e (inr f) = k.each j x y e f.1
+
 -- one connection is told a fact, and this is kept of it now
 pub one_told : (s : Setup) (es : List (Option Earlier)) (line : ℕ) (r : ListRun) (i : ℕ) (c : Client) (fact : Fact) (o : Option Earlier)
     → AllRemember s es r → slice_get r.clients i ≡ Some c

@@ -1,6 +1,6 @@
 -- What the parts of a world do. No public clause speaks of it.
 use Rattle.std.specs.Prelude.{◌≡◌, ℕ, ◌+◌, ◌*◌, ◌<◌, Bool, true, false, if◌then◌else◌, ◌==◌, not, nat_lt, List, [], ◌∷◌, map, Option}
-use Rattle.std.specs.Prelude.{Some, None, IsTrue, is_some, ◌++◌, Result, IfOk}
+use Rattle.std.specs.Prelude.{Some, None, IsTrue, is_some, ◌++◌, Result, IfOk, slice_get}
 use Rattle.std.specs.List.{sum_by}
 use Rattle.indexmap.specs.IndexMap.{keys, values}
 use Rattle.indexmap.specs.IndexSet.{IndexSet, keys as set_keys}
@@ -35,8 +35,9 @@ use Rattle.ncc_world.specs.declared.clients.Clients.{Clients}
 use Rattle.ncc_world.specs.declared.answer.Reply as declared
 use Rattle.ncc_world.specs.declared.answer.Reply.TheVariants as answer
 use Rattle.ncc_world.specs.declared.running.Running.{Running}
-use Rattle.ncc_world.specs.Setting.{Lists, cluster_of}
-use Rattle.ncc_world.specs.Earlier.{LeftBy, LeftFor}
+use Rattle.ncc_world.specs.Setting.{Lists, cluster_of, list_at}
+use Rattle.ncc_world.specs.Earlier.{LeftBy, LeftFor, Remembers}
+use Rattle.ncc_world.specs.declared.earlier.Earlier.{Earlier}
 use Rattle.ncc_world.specs.Happening.{ListRun}
 use Rattle.ncc_world.specs.World.{KeptMembers, KeptClients, KeptRun, AreMembers, AreServed, RunsAs, placing_of}
 
@@ -163,6 +164,10 @@ LeftIn list question _ = Unit {0}
 abbrev pub KeepsNothing : declared.Reply → Type 0
 KeepsNothing (answer.Tells fact earlier) = earlier ≡ None
 KeepsNothing _ = Unit {0}
+
+-- This was kept of the connection at an index.
+abbrev pub RememberedAt : Setup → ListRun → ℕ → Option Earlier → Type 0
+RememberedAt s r index o = (c : Client) → slice_get r.clients index ≡ Some c → Remembers s (list_at r.members c.member) c o
 
 -- behind an answer to a connection
 abbrev pub LeftAt : Setup → ListRun → Client → declared.Reply → Type 0

@@ -91,29 +91,27 @@ fn last_alone(alloc: Global, steps: &[Step]) -> Result<Steps, Memory>
 }
 
 // Runs the last step behind what those before it left.
-fn run_last(alloc: Global, shelf: &Shelf, earlier: &Delta, steps: &Steps) -> Result<Ran, RunError>
+fn run_last(alloc: Global, shelf: &Shelf, earlier: Delta, steps: &Steps) -> Result<Ran, RunError>
     requires left { (h : List Items) × ShelfStands shelf.now h × (before : List Calls) × (call : Calls)
-        × (map call_of steps.now ≡ before ++ call ∷ []) × Left (state h) before earlier.now }
+        × (map call_of steps.now ≡ before ++ call ∷ []) × Left (state h) before earlier }
     ensures ran { (h : List Items) → ShelfStands shelf.now h → RunsToLast (state h) (map call_of steps.now) result }
 {
     let last = last_alone(alloc, steps.as_slice())?;
-    shelf.run_on(alloc, earlier.copy()?, &last)
+    shelf.run_on(alloc, earlier, &last)
 }
 
 // Runs steps: all, or the last alone where what those before it left is kept of just the entries that the member has applied.
 fn run_steps(
     alloc: Global,
     shelf: &Shelf,
-    earlier: &Option<Earlier>,
+    earlier: Option<Earlier>,
     steps: &Steps,
 ) -> Result<Ran, RunError>
-    requires from { (h : List Items) × ShelfStands shelf.now h × IsFrom h (map call_of steps.now) earlier.now }
+    requires from { (h : List Items) × ShelfStands shelf.now h × IsFrom h (map call_of steps.now) earlier }
     ensures ran { (h : List Items) → ShelfStands shelf.now h → RunsToLast (state h) (map call_of steps.now) result }
 {
     match earlier {
-        Some(earlier) if earlier.at == shelf.at() => {
-            run_last(alloc, shelf, &earlier.delta, steps)
-        }
+        Some(Earlier { at, delta }) if at == shelf.at() => run_last(alloc, shelf, delta, steps),
         _ => shelf.run(alloc, steps),
     }
 }
@@ -122,10 +120,10 @@ fn run_steps(
 fn run(
     alloc: Global,
     shelf: &Shelf,
-    earlier: &Option<Earlier>,
+    earlier: Option<Earlier>,
     steps: &Steps,
 ) -> Result<Reply, Memory>
-    requires from { (h : List Items) × ShelfStands shelf.now h × IsFrom h (map call_of steps.now) earlier.now }
+    requires from { (h : List Items) × ShelfStands shelf.now h × IsFrom h (map call_of steps.now) earlier }
     ensures exact { IfOk result (λ a. (h : List Items) → ShelfStands shelf.now h →
         reply_in a ≡ tells (ran (length h) (exec (state h) (map call_of steps.now)))) }
     ensures left { IfOk result (λ a. (h : List Items) → ShelfStands shelf.now h → LeftIn h (run (map call_of steps.now)) a) }
@@ -156,10 +154,10 @@ fn rows(
     alloc: Global,
     shelf: &Shelf,
     member: u8,
-    earlier: &Option<Earlier>,
+    earlier: Option<Earlier>,
     steps: &Steps,
 ) -> Result<Reply, Memory>
-    requires from { (h : List Items) × ShelfStands shelf.now h × IsFrom h (map call_of steps.now) earlier.now }
+    requires from { (h : List Items) × ShelfStands shelf.now h × IsFrom h (map call_of steps.now) earlier }
     ensures exact { IfOk result (λ r. (s : Setups) (lists : Lists) (h : List Items) → ShelfStands shelf.now h →
         reply_in r ≡ runs ((cluster_of s).leads lists member) h (map call_of steps.now)) }
     ensures left { IfOk result (λ r. (h : List Items) → ShelfStands shelf.now h → LeftIn h (run (map call_of steps.now)) r) }
@@ -233,13 +231,13 @@ pub(crate) fn answered(
     members: &Members,
     member: u8,
     ask: &Ask,
-    earlier: &Option<Earlier>,
+    earlier: Option<Earlier>,
     placing: Option<Place>,
     now: u64,
     deadline: u64,
 ) -> Result<Reply, Memory>
     requires from { (lists : Lists) × AreMembers setup.now (members_in members.now) lists
-        × ((calls : List Calls) → question_of ask.now ≡ run calls → IsFrom (list_at lists member) calls earlier.now) }
+        × ((calls : List Calls) → question_of ask.now ≡ run calls → IsFrom (list_at lists member) calls earlier) }
     requires there { (1 ≤ member) × (member ≤ length members.now.shelves.items) }
     ensures exact { IfOk result (λ a. (r : ListRun) (c : Client) → AreMembers setup.now (members_in members.now) r.members →
         IsAskedOf setup.now now member deadline placing r c →

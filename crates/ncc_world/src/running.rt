@@ -11,7 +11,7 @@ ghost use Rattle.ncc_world.specs.Events.{MayHappen};
 ghost use Rattle.ncc_world.specs.Happening.{ListRun, Happens, start_of, own, refusal, unless, asks, feeds, closes_one, is_member, is_open_made};
 ghost use Rattle.ncc_world.specs.Earlier.{LeftFor};
 ghost use Rattle.ncc_world.specs.World.{RunsAs};
-ghost use Rattle.ncc_world.specs.Parts.{HasRun, LeftAt, TurnBy, Offered, DoesTo, first_acting, left_in, lower, number_of, reply_in, run_in};
+ghost use Rattle.ncc_world.specs.Parts.{HasRun, LeftAt, RememberedAt, TurnBy, Offered, DoesTo, first_acting, left_in, lower, number_of, reply_in, run_in};
 ghost use Rattle.ncc_world.specs.declared.served.Served.{Served as Serveds};
 
 use crate::answer::{Reply, answered};
@@ -82,9 +82,27 @@ impl Running {
         lowest
     }
 
-    // What its member does with the question of the connection at an index.
-    fn reply_at(&self, alloc: Global, setup: &Setup, index: usize) -> Result<Reply, Memory>
-        requires live { HasRun setup.now self.now }
+    // Takes out what is kept of the connection at an index: its next answer keeps other things, or nothing.
+    fn take_earlier(&mut self, setup: &Setup, index: usize) -> Option<Earlier>
+        requires live { HasRun setup.now self.old }
+        requires there { index < length (values self.old.clients.table) }
+        ensures runs { (r : ListRun) → RunsAs setup.now (run_in self.old) r → RunsAs setup.now (run_in self.new) r }
+        ensures clients { self.new.clients ≡ self.old.clients }
+        ensures kept { (r : ListRun) → RunsAs setup.now (run_in self.old) r → RememberedAt setup.now r index result }
+    {
+        let _setup = setup;
+        self.earlier[index].take()
+    }
+
+    // What its member does with the question of the connection at an index, of which this was kept.
+    fn reply_at(
+        &self,
+        alloc: Global,
+        setup: &Setup,
+        index: usize,
+        earlier: Option<Earlier>,
+    ) -> Result<Reply, Memory>
+        requires kept { (r : ListRun) × RunsAs setup.now (run_in self.now) r × RememberedAt setup.now r index earlier }
         requires there { index < length (values self.now.clients.table) }
         ensures exact { IfOk result (λ a. (r : ListRun) (c : Client) → RunsAs setup.now (run_in self.now) r → slice_get r.clients index ≡ Some c →
             reply_in a ≡ reply (cluster_of setup.now) r c) }
@@ -101,7 +119,7 @@ impl Running {
                 &self.members,
                 member,
                 ask,
-                &self.earlier[index],
+                earlier,
                 served.placing,
                 self.clock,
                 served.since.saturating_add(setup.wait),
@@ -188,6 +206,30 @@ impl Running {
         Ok(())
     }
 
+    // Answers the question of the connection at an index, of which this was kept, or proposes its entry.
+    fn answer_with(
+        &mut self,
+        alloc: Global,
+        setup: &Setup,
+        line: u64,
+        index: usize,
+        earlier: Option<Earlier>,
+    ) -> Result<(), Memory>
+        requires live { HasRun setup.now self.old }
+        requires there { index < length (values self.old.clients.table) }
+        requires kept { (r : ListRun) × RunsAs setup.now (run_in self.old) r × RememberedAt setup.now r index earlier }
+        ensures ok { OnOk result ((r : ListRun) (c : Client) → RunsAs setup.now (run_in self.old) r → slice_get r.clients index ≡ Some c →
+            acts (cluster_of setup.now) r c ≡ true → DoesTo setup.now line r index c (reply (cluster_of setup.now) r c) (run_in self.new)) }
+        ensures lowers { OnOk result ((r : ListRun) (c : Client) → RunsAs setup.now (run_in self.old) r → slice_get r.clients index ≡ Some c →
+            acts (cluster_of setup.now) r c ≡ true → left_in self.new.clients < left_in self.old.clients) }
+    {
+        match self.reply_at(alloc, setup, index, earlier)? {
+            Reply::Waits => Ok(()),
+            Reply::Tells(fact, earlier) => self.tell(setup, line, index, fact, earlier),
+            Reply::Proposes => self.propose(setup, line, index),
+        }
+    }
+
     // Answers the question of the connection at an index, or proposes its entry.
     fn answer(
         &mut self,
@@ -203,11 +245,8 @@ impl Running {
         ensures lowers { OnOk result ((r : ListRun) (c : Client) → RunsAs setup.now (run_in self.old) r → slice_get r.clients index ≡ Some c →
             acts (cluster_of setup.now) r c ≡ true → left_in self.new.clients < left_in self.old.clients) }
     {
-        match self.reply_at(alloc, setup, index)? {
-            Reply::Waits => Ok(()),
-            Reply::Tells(fact, earlier) => self.tell(setup, line, index, fact, earlier),
-            Reply::Proposes => self.propose(setup, line, index),
-        }
+        let earlier = self.take_earlier(setup, index);
+        self.answer_with(alloc, setup, line, index, earlier)
     }
 
     // One turn: the first connection whose question can be answered is answered. False where there is none.

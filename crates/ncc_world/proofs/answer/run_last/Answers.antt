@@ -1,7 +1,5 @@
 use Rattle.std.proofs.Common.{◌≡◌, List, [], ◌∷◌, ◌++◌, map, sym, subst}
-use Rattle.ncc_store.specs.declared.ran.Delta.{Delta}
 use Rattle.ncc_store.specs.declared.step.Step.{Step}
-use Rattle.ncc_store.specs.Delta.{IsOver}
 use Rattle.ncc_store.specs.Exec.{call_of}
 use Rattle.ncc_store.specs.Graph.{Graph}
 use Rattle.ncc_tx.specs.State.{state}
@@ -12,18 +10,16 @@ use Rattle.ncc_world.proofs.answer.run_last.Goals as goal
 pub run_on-requires : goal.run_on-requires
 run_on-requires c =
     let l = c.requires.left in
-    record {
-      over = (l.0, l.1, subst (λ (d : Delta). IsOver (state l.0) d) (sym c.in_ok-copy.ensures.same) l.5.over);
-    }
+    record { over = (l.0, l.1, l.5.over) }
 
 pub returns : goal.returns
 returns c = record {
   ran = λ h k.
       let l = c.requires.left in
-      let here : Left (state h) l.2 c.args.earlier.now =
-      subst (λ (g : Graph). Left g l.2 c.args.earlier.now) (same_state c.args.shelf.now l.0 h l.1 k) l.5 in
+      let here : Left (state h) l.2 c.args.earlier =
+      subst (λ (g : Graph). Left g l.2 c.args.earlier) (same_state c.args.shelf.now l.0 h l.1 k) l.5 in
       last_runs (state h) _ l.2 (map call_of c.args.steps.now) (map call_of c.in_ok-last.last) l.3 c.run_on.result l.4
       (c.in_ok-last.ensures l.2 l.3 (subst (λ (ss : List Step). map call_of ss ≡ l.2 ++ l.3 ∷ []) (sym c.as_slice.ensures.same) l.4))
-      (subst (λ (d : Delta). Left (state h) l.2 d) (sym c.in_ok-copy.ensures.same) here)
+      here
       (c.run_on.ensures.exact h k) (c.run_on.ensures.over h k) (c.run_on.ensures.all h k);
 }

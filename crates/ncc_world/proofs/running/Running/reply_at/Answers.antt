@@ -1,10 +1,8 @@
-use Rattle.std.proofs.Common.{◌∙◌, sym, arith, refl, ◌≡◌, ap, length, Some, Option}
+use Rattle.std.proofs.Common.{◌∙◌, sym, arith, refl, ap, Some, Option}
 use Rattle.std.proofs.Common.{subst}
 use Rattle.std.proofs.lemmas.Result.{IfOk-weaker}
 use Rattle.ncc_world.proofs.Listing.{shelf_count}
 use Rattle.ncc_session.specs.Core.{question_of as asks_of}
-use Rattle.std.proofs.lemmas.Option.{slice_get_read}
-use Rattle.std.specs.Prelude.{slice_get}
 use Rattle.ncc_session.specs.Question.{Question}
 use Rattle.ncc_world.specs.declared.earlier.Earlier.{Earlier}
 use Rattle.ncc_world.specs.Earlier.{IsFrom}
@@ -17,21 +15,17 @@ use Rattle.ncc_world.proofs.running.Running.reply_at.Goals as goal
 
 pub shown-requires : goal.shown-requires
 shown-requires c =
-    let n = counted c.args.setup.now (run_in c.args.self.now) c.requires.live.run c.requires.live.runs_as in
+    let n = counted c.args.setup.now (run_in c.args.self.now) c.requires.kept.0 c.requires.kept.1 in
     record { there = omega (arith, n.table, n.seen, c.requires.there) }
 
 pub answered-requires : goal.answered-requires
 answered-requires c =
-    let k = c.requires.live.runs_as in
-    let r = c.requires.live.run in
+    let r = c.requires.kept.0 in
+    let k = c.requires.kept.1 in
     let h = here c.args.setup.now (run_in c.args.self.now) r c.args.index c.served-served.result.now c.shown.result.now k c.requires.there
     c.served-served.ensures.is c.shown.ensures.shown in
     let n = shelf_count _ _ r.members k.members.shelves in
-    let table = counted c.args.setup.now (run_in c.args.self.now) r k in
-    let es = c.args.self.now.earlier.items in
-    let o : Option Earlier = c.index.result.now in
-    let at : slice_get es c.args.index ≡ Some o =
-    slice_get_read es (length es) c.args.index o refl (omega (arith, k.earlier.count, table.table, c.requires.there)) c.index.ensures in
+    let o : Option Earlier = c.args.earlier in
     record {
       from = (
         r.members,
@@ -39,7 +33,7 @@ answered-requires c =
         λ calls e.
             subst (λ m. IsFrom (list_at r.members m) calls o) (sym h.is.kept.member)
             (from_kept c.args.setup.now (list_at r.members h.client.member) h.client o calls
-            (k.earlier.each c.args.index h.client o h.there at)
+            (c.requires.kept.2 h.client h.there)
             (asks_as_served c.args.setup.now c.served-served.result.now c.shown.result.now h.client (asks_of c.in-Some.ask.now) h.is
             c.in-Some.ensures.some ∙ ap (λ (q : Question). Some q) e)),
       );
