@@ -20,7 +20,7 @@ mod telling;
 mod world;
 
 pub use error::{Which, WorldError};
-pub use event::{Bookmarks, Event};
+pub use event::{Bookmarks, Event, Job};
 pub use laws::{
     every_run_keeps, list_keeps_four, requests_fit, worked_events, worked_members, worked_waits,
 };
