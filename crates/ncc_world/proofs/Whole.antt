@@ -47,4 +47,4 @@ every_run_keeps clients s es end setup ran =
     }
 
 pub one_run_of_each : ((s : Setup) → Clients s) → OneRun
-one_run_of_each clients s es r t u h g = one_run s (clients s).one_way es r t u h g
+one_run_of_each clients s es r t u h g = one_run s (ways_of s (clients s)) es r t u h g
