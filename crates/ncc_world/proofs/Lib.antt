@@ -6,6 +6,7 @@ pub mod Pumping
 pub mod Moments
 pub mod Happenings
 pub mod Worked
+pub mod Bounding
 pub mod Coursing
 pub mod Whole
 pub mod Kept_by

@@ -33,7 +33,7 @@ asks_leads s r member request =
     then_ C r t (asks s r member request) (small C r t (Opens r member false) refl)
     (feeds_leads C t (length r.clients) (client_bytes request))
 
-not_refused : (b : Bool) (error : WorldError) → unless b error ≡ None → b ≡ true
+pub not_refused : (b : Bool) (error : WorldError) → unless b error ≡ None → b ≡ true
 not_refused true error e = refl
 not_refused false error e = absurd (cc)
 
@@ -58,6 +58,11 @@ lags r member count e = go (nat_le 1 member) (nat_le member (length r.members)) 
   go true false f g e = absurd (cc)
   go true true f g e = there f g (member == 1) refl e
 
+pub lags_at : (r : ListRun) (member count : ℕ) → refusal r (Apply member count) ≡ None → Applies r.members (lagging r.members member count)
+lags_at r member count e =
+    let l : Lags r member = lags r member count e in
+    record { member = member; count = count; follows = l.follows; there = l.there; same = refl }
+
 pub own_leads : (s : Setup) (line : ℕ) (event : Event) (r : ListRun) → refusal r event ≡ None
     → Leads (cluster_of s) r (own s line event r)
 unfolding own
@@ -69,10 +74,8 @@ own_leads s line (Time to) r e =
 own_leads s line (Put member key value bookmarks) r e = asks_leads s r member (put_request key value bookmarks)
 own_leads s line (Get member key bookmarks) r e = asks_leads s r member (get_request key bookmarks)
 own_leads s line (Apply member count) r e =
-    let l : Lags r member = lags r member count e in
-    let a : Applies r.members (lagging r.members member count) =
-    record { member = member; count = count; follows = l.follows; there = l.there; same = refl } in
-    small (cluster_of s) r (own s line (Apply member count) r) (Moves r (lagging r.members member count) a) refl
+    small (cluster_of s) r (own s line (Apply member count) r)
+    (Moves r (lagging r.members member count) (lags_at r member count e)) refl
 own_leads s line (Open member) r e = small (cluster_of s) r (opened r member true) (Opens r member true) refl
 own_leads s line (Bytes conn bytes) r e = feeds_leads (cluster_of s) r (conn - 1) bytes
 own_leads s line (Close conn) r e = closes_leads (cluster_of s) r (conn - 1)
