@@ -1,13 +1,14 @@
 -- Every run of events is a course, deed by deed, and so sessions read their writes in it.
 use Rattle.std.proofs.Common.{◌≡◌, ◌≢◌, ℕ, zero, suc, ◌+◌, ◌-◌, ◌<◌, ◌≤◌, ◌^◌, ◌==◌, nat_le, Bool, true, false, cond, not, ◌&&◌, ◌||◌}
 use Rattle.std.proofs.Common.{List, [], ◌∷◌, ◌++◌, length, take, Option, Some, None, codes, IsTrue}
-use Rattle.std.proofs.Common.{refl, ap, sym, ◌∙◌, arith, subst, leb-true, length-append}
-use Rattle.std.proofs.lemmas.Bool.{eqb-false, le-leb}
-use Rattle.std.proofs.lemmas.Str.{is_utf8-from_IsUtf8, IsUtf8-from_ascii, IsAscii-append}
+use Rattle.std.proofs.Common.{refl, ap, sym, ◌∙◌, arith, subst, leb-true, ltb-true, eqb-true, length-append}
+use Rattle.std.proofs.lemmas.Bool.{eqb-false}
+use Rattle.std.proofs.lemmas.Str.{IsAscii-append}
+use Rattle.std.proofs.lemmas.Str.Ascii.{IsAscii-nil, IsAscii-cons}
 use Rattle.std.proofs.lemmas.Fmt.{IsAscii-decimal, length-decimal-le}
-use Rattle.std.specs.Prelude.{slice_get, decimal, if◌then◌else◌}
+use Rattle.std.specs.Prelude.{slice_get, decimal, nat_lt, if◌then◌else◌}
 use Rattle.std.specs.List.{Contains, list_any, list_all}
-use Rattle.std.specs.Str.{IsAscii, IsUtf8, is_utf8}
+use Rattle.std.specs.Str.{IsAscii}
 use Rattle.ncc_pack.specs.declared.value.Value.{Value}
 use Rattle.ncc_pack.specs.declared.value.Value.TheVariants as v
 use Rattle.ncc_pack.specs.Fits.{fits, fits_text}
@@ -54,7 +55,7 @@ use Rattle.ncc_world.specs.Happening.{ListRun, start_of, unless, refusal, is_pri
 use Rattle.ncc_world.specs.Happening.{ComesAsBytes, Steps, Happens, RunsOn}
 use Rattle.ncc_world.specs.Headline.{AllMayHappen}
 use Rattle.ncc_world.proofs.Settling.{path_through}
-use Rattle.ncc_world.proofs.Sending.{ascii, word_fits}
+use Rattle.ncc_world.proofs.Sending.{word_fits}
 use Rattle.ncc_world.proofs.Keeping.{get_there}
 use Rattle.ncc_world.proofs.Listed.{list_keeps_four}
 use Rattle.ncc_world.proofs.Bounding.{has_numbers}
@@ -62,18 +63,22 @@ use Rattle.ncc_world.proofs.Moments.{lags_at, not_refused}
 
 -- ---- what sessions and works are made of has a spelling
 
+low_ascii : (bs : List ℕ) → list_all (λ b. nat_lt b 128) bs ≡ true → IsAscii bs
+low_ascii [] h = IsAscii-nil
+low_ascii (b ∷ bs) h =
+    let one : nat_lt b 128 ≡ true = grind arith in
+    let rest : list_all (λ c. nat_lt c 128) bs ≡ true = grind arith in
+    IsAscii-cons b bs (ltb-true b 128 one) (low_ascii bs rest)
+
 address_fits : (member : ℕ) → member < 2 ^ 64 → text_has_spelling (address member) ≡ true
 unfolding text_has_spelling
 address_fits member lt =
-    let port : IsAscii (codes ":7687") = refl_ascii in
+    let port : IsAscii (codes ":7687") = low_ascii (codes ":7687") refl in
     let digits : length (decimal member) ≤ 20 = length-decimal-le 20 member (omega arith) (omega arith) lt in
     let back : IsAscii (decimal member ++ codes ":7687") = IsAscii-append (decimal member) (codes ":7687") (IsAscii-decimal member lt) port in
     let few : length (decimal member ++ codes ":7687") ≤ 100 = omega (arith, digits, length-append (decimal member) (codes ":7687")) in
     text_within (codes "n" ++ decimal member ++ codes ":7687") 32
     (text_of_both (codes "n") (decimal member ++ codes ":7687") (utf8 (codes "n") refl) (omega arith) back few)
-  where
-    refl_ascii : IsAscii (codes ":7687")
-    refl_ascii = ascii (codes ":7687") refl
 
 addresses_fit : (count first : ℕ) → first + count < 2 ^ 64 → texts_fit (addresses count first) ≡ true
 unfolding addresses
@@ -87,8 +92,10 @@ addresses_count zero first = refl
 addresses_count (suc count) first = ap suc (addresses_count count (first + 1))
 
 some_count : (n : ℕ) → 1 ≤ n → not (n == 0) ≡ true
-some_count zero h = absurd (omega (arith, h))
-some_count (suc n) h = refl
+some_count n h = go (n == 0) refl where
+  go : (b : Bool) → (n == 0) ≡ b → not b ≡ true
+  go true e = absurd (omega (arith, eqb-true n 0 e, h))
+  go false e = refl
 
 config_fit : (s : Setup) (seed : ℕ) → IsSetup s → IsTrue (config_fits (config_of s seed))
 config_fit s seed setup =
@@ -179,7 +186,7 @@ none_some : {A : Type 0} (x : A) → None ≡ Some x → ⊥
 none_some x e = cc
 
 module _ (known : Known) (says : DriverSays) (s : Setup) (setup : IsSetup s) where
-  C : Cluster Lists
+  abbrev C : Cluster Lists
   C = cluster_of s
 
   four : Four C (nobody s)

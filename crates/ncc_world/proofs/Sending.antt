@@ -33,7 +33,7 @@ use Rattle.ncc_world.specs.Requests.{bookmarks_at, get_request, get_source, pull
 low : (b : ℕ) → is_word_byte b ≡ true → b < 128
 low b h = grind (arith, nat_tests)
 
-pub ascii : (w : List ℕ) → list_all is_word_byte w ≡ true → IsAscii w
+ascii : (w : List ℕ) → list_all is_word_byte w ≡ true → IsAscii w
 ascii [] h = IsAscii-nil
 ascii (b ∷ bs) h =
     let one : is_word_byte b ≡ true = grind arith in
