@@ -11,7 +11,7 @@ use Rattle.ncc_clients.specs.Run.{Client, begun, proposed}
 use Rattle.ncc_clients.specs.Moment.{Small, Ticks, Opens, Feeds, Tells, Offers, Moves, Drives, Closes, Path, Here, Then}
 use Rattle.ncc_clients.specs.Course.{HasNumbers}
 use Rattle.ncc_world.specs.declared.setup.Setup.{Setup}
-use Rattle.ncc_world.specs.Setting.{IsSetup, Lists, Applies, cluster_of, nobody, list_at, appended, item_of, proposes, lagging, extended}
+use Rattle.ncc_world.specs.Setting.{IsSetup, Lists, Applies, cluster_of, nobody, list_at, appended, item_of, proposes, extended}
 use Rattle.ncc_world.specs.Happening.{ListRun}
 use Rattle.ncc_world.proofs.Listed.{reached, first_is}
 

@@ -1,5 +1,5 @@
 -- Every run of events is a course, deed by deed, and so sessions read their writes in it.
-use Rattle.std.proofs.Common.{◌≡◌, ◌≢◌, ℕ, zero, suc, ◌+◌, ◌-◌, ◌<◌, ◌≤◌, ◌^◌, ◌==◌, nat_le, Bool, true, false, cond, not, ◌&&◌, ◌||◌}
+use Rattle.std.proofs.Common.{◌≡◌, ◌≢◌, ℕ, zero, suc, ◌+◌, ◌-◌, ◌<◌, ◌≤◌, ◌^◌, ◌==◌, nat_le, Bool, true, false, not, ◌&&◌, ◌||◌}
 use Rattle.std.proofs.Common.{List, [], ◌∷◌, ◌++◌, length, take, Option, Some, None, codes, IsTrue}
 use Rattle.std.proofs.Common.{refl, ap, sym, ◌∙◌, arith, subst, leb-true, ltb-true, eqb-true, length-append}
 use Rattle.std.proofs.lemmas.Bool.{eqb-false}
@@ -9,7 +9,6 @@ use Rattle.std.proofs.lemmas.Fmt.{IsAscii-decimal, length-decimal-le}
 use Rattle.std.specs.Prelude.{slice_get, decimal, nat_lt, if◌then◌else◌}
 use Rattle.std.specs.List.{Contains, list_any, list_all}
 use Rattle.std.specs.Str.{IsAscii}
-use Rattle.ncc_pack.specs.declared.value.Value.{Value}
 use Rattle.ncc_pack.specs.declared.value.Value.TheVariants as v
 use Rattle.ncc_pack.specs.Fits.{fits, fits_text}
 use Rattle.ncc_bolt.specs.declared.message.Request.{Request}
@@ -19,15 +18,15 @@ use Rattle.ncc_driver.specs.LawsFits.{AreBytes, JobFits}
 use Rattle.ncc_driver.specs.WorksFit.{add_fits, put_fits, get_fits}
 use Rattle.ncc_clients.specs.Members.{Cluster, address, addresses}
 use Rattle.ncc_clients.specs.Links.{Link, Linked, Driver, lift_bytes}
-use Rattle.ncc_clients.specs.Run.{Client, begun, ticked, opened, moved, fed, closed_at}
-use Rattle.ncc_clients.specs.Turn.{Turns, Settles}
-use Rattle.ncc_clients.specs.Moment.{Small, Ticks, Opens, Feeds, Moves, Closes, Path, Here}
+use Rattle.ncc_clients.specs.Run.{Client, ticked, opened, moved, fed, closed_at}
+use Rattle.ncc_clients.specs.Turn.{Settles}
+use Rattle.ncc_clients.specs.Moment.{Ticks, Opens, Feeds, Moves, Closes, Path, Here}
 use Rattle.ncc_clients.specs.Four.{Four}
 use Rattle.ncc_clients.specs.Drives.{driver_at, is_busy, feeds, feeds_one, closes, closes_one, rises, descends, lift_to, all_bytes, less, up_at, down_at}
 use Rattle.ncc_clients.specs.Drives.{waits_above, makes, begins, lifts, falls, cuts, wakes_all, Pumps, Rests, Stops}
 use Rattle.ncc_clients.specs.Drives.{Lifts as Rises, Falls as Sinks}
 use Rattle.ncc_clients.specs.Reads.{SessionsReadTheirWrites}
-use Rattle.ncc_clients.specs.Course.{ComeAsBytes, IsNoLink, LeavesSessions, HasNumbers}
+use Rattle.ncc_clients.specs.Course.{ComeAsBytes, IsNoLink, HasNumbers}
 use Rattle.ncc_clients.specs.Course.{Deed, Plain, Makes, Begins, Lifts, Falls, Cuts, Wakes, Course, Here as Nothing, Then as And}
 use Rattle.ncc_clients.proofs.Known.{Known}
 use Rattle.ncc_clients.proofs.Driven.{DriverSays}
@@ -36,7 +35,7 @@ use Rattle.ncc_clients.proofs.Deeds.{falls_kept, cuts_kept}
 use Rattle.ncc_clients.proofs.Beginning.{woken_kept, begins_kept, makes_kept}
 use Rattle.ncc_clients.proofs.Lifting.{lifts_kept}
 use Rattle.ncc_clients.proofs.Smalls.{small_kept}
-use Rattle.ncc_clients.proofs.Courses.{deed_path, course_path}
+use Rattle.ncc_clients.proofs.Courses.{deed_path}
 use Rattle.ncc_clients.proofs.Splitting.{lifts_split, fronts_are_taken}
 use Rattle.ncc_clients.proofs.Waking.{turns_are_courses, wakes_are_courses}
 use Rattle.ncc_clients.proofs.Reading.{sessions_read}
@@ -46,7 +45,6 @@ use Rattle.ncc_world.specs.declared.event.Event.TheVariants.{Time, Put, Get, App
 use Rattle.ncc_world.specs.declared.event.Job.{Job}
 use Rattle.ncc_world.specs.declared.event.Job.TheVariants.{Add}
 use Rattle.ncc_world.specs.declared.event.Job.TheVariants as job
-use Rattle.ncc_world.specs.declared.error.WorldError.{WorldError}
 use Rattle.ncc_world.specs.declared.error.WorldError.TheVariants.{NoConn, NoSession, Busy}
 use Rattle.ncc_world.specs.Setting.{IsSetup, Lists, Applies, cluster_of, nobody, lagging}
 use Rattle.ncc_world.specs.Events.{MayHappen, MayBegin}

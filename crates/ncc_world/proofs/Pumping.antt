@@ -1,14 +1,14 @@
 -- All that moves on a link at once: it is a path of small things, there is one way to go, and each moment on the way goes on to its end.
-use Rattle.std.proofs.Common.{◌≡◌, ℕ, ◌+◌, ◌-◌, ◌<◌, ◌≤◌, Bool, true, false, List, [], ◌∷◌, Option, Some, None, refl, sym, ◌∙◌, ap, subst}
+use Rattle.std.proofs.Common.{◌≡◌, ℕ, Bool, true, false, List, [], Option, Some, None, refl, subst}
 use Rattle.std.proofs.Common.{arith, inl, inr}
 use Rattle.std.specs.Prelude.{nat_le}
 use Rattle.std.proofs.lemmas.Bool.Decides.{leb_tells}
 use Rattle.ncc_clients.specs.Members.{Cluster}
 use Rattle.ncc_clients.specs.Links.{Parcel, requests_in}
 use Rattle.ncc_clients.specs.Run.{Run}
-use Rattle.ncc_clients.specs.Turn.{Turns, Settles}
+use Rattle.ncc_clients.specs.Turn.{Settles}
 use Rattle.ncc_clients.specs.Moment.{Path, Here}
-use Rattle.ncc_clients.specs.Drives.{driver_at, up_at, down_at, is_reached, less, rises, descends}
+use Rattle.ncc_clients.specs.Drives.{driver_at, up_at, is_reached, less, rises, descends}
 use Rattle.ncc_clients.specs.Drives.{Pumps, Pumping, Rests, Stops, Lifts, Falls, Begins, Rising, Risen, Fallen}
 use Rattle.ncc_clients.specs.Laws.{TurnsAreSmall, OneWay}
 use Rattle.ncc_world.specs.Events.{CountsSome}

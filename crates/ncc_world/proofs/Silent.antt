@@ -8,12 +8,10 @@ use Rattle.ncc_driver.specs.declared.action.Input.TheVariants as i
 use Rattle.ncc_driver.specs.declared.config.SessionConfig.{SessionConfig}
 use Rattle.ncc_driver.specs.Session.{Begun}
 use Rattle.ncc_driver.specs.Work.{Job}
-use Rattle.ncc_driver.specs.Talk.{begun as begun_work}
-use Rattle.ncc_clients.specs.declared.told.Told.{Told}
 use Rattle.ncc_clients.specs.Members.{Cluster}
 use Rattle.ncc_clients.specs.Links.{Link, Driver, Driving, Ended, Lifted, Parcel, bytes_in}
 use Rattle.ncc_clients.specs.Run.{Run, Client, opened, fed, closed_at}
-use Rattle.ncc_clients.specs.Moment.{Small, Opens, Feeds, Drives, Closes, Path, Here, Then}
+use Rattle.ncc_clients.specs.Moment.{Small, Opens, Feeds, Drives, Closes, Path, Here}
 use Rattle.ncc_clients.specs.Drives.{driver_at, with_driver, feeds, feeds_one, closes, closes_one, member_named, joins, joins_named}
 use Rattle.ncc_clients.specs.Drives.{parts, ends, does_by, does, does_all, more, knows, does_more, joined, last_of, follows_on, turns_to}
 use Rattle.ncc_clients.specs.Drives.{told_input, with_input, makes, begins_by, begins, goes_up, lifts_by, lifts, comes_down, waits_above}
