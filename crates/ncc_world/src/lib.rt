@@ -2,6 +2,7 @@
 #![tactic(auto)]
 
 mod answer;
+mod bytes;
 mod clients;
 mod config;
 mod earlier;
