@@ -5,10 +5,16 @@ use Rattle.ncc_bookmark.specs.Point.{Point}
 use Rattle.ncc_clients.specs.Run.{ticked, opened, moved}
 use Rattle.ncc_clients.specs.Drives.{wakes_all, feeds, closes_one}
 use Rattle.ncc_world.specs.declared.setup.Setup.{Setup}
+use Rattle.ncc_world.specs.declared.event.Event.{Event}
 use Rattle.ncc_world.specs.declared.event.Event.TheVariants.{Time, Put, Get, Apply, Open, Bytes, Close}
 use Rattle.ncc_world.specs.Setting.{cluster_of, lagging}
 use Rattle.ncc_world.specs.Requests.{put_request, get_request}
-use Rattle.ncc_world.specs.Happening.{ListRun, own, asks}
+use Rattle.ncc_world.specs.Happening.{ListRun, own, asks, Steps}
+use Rattle.ncc_world.specs.World.{KeptRun, RunsAs}
+
+-- what an event comes to before its turns, as a world keeps it
+abbrev pub Stepped : Setup → ℕ → KeptRun → ListRun → Event → Type 0
+Stepped s line w r event = (t : ListRun) × Steps s line event r t × RunsAs s w t
 
 pub own_time : (s : Setup) (line : ℕ) (r : ListRun) (to : ℕ) → wakes_all (cluster_of s) line (ticked r to) ≡ own s line (Time to) r
 unfolding own
