@@ -56,7 +56,7 @@ returns-in_ok-request-in-Put c = record {
   ok = on_ok_weaker c.ask.result (λ f r k.
       let s = c.args.setup.now in
       let t : ListRun = asks s r c.in-Put.member (put_request c.in-Put.key c.in-Put.value c.in-Put.bookmarks) in
-      let runs : RunsAs s (run_in c.ask.new.self) t = 
+      let runs : RunsAs s (run_in c.ask.new.self) t =
       subst (λ (q : Request). RunsAs s (run_in c.ask.new.self) (asks s r c.in-Put.member q)) c.in_ok-request-in-Put.ensures (f r k) in
       subst (Stepped s c.args.line (run_in c.ask.new.self) r) (sym c.in-Put.is) (t, own_put s c.args.line r c.in-Put.member c.in-Put.key c.in-Put.value c.in-Put.bookmarks, runs)) c.ask.ensures.ok;
 }
@@ -66,7 +66,7 @@ returns-in_ok-request-in-Get c = record {
   ok = on_ok_weaker c.ask-in-Get.result (λ f r k.
       let s = c.args.setup.now in
       let t : ListRun = asks s r c.in-Get.member (get_request c.in-Get.key c.in-Get.bookmarks) in
-      let runs : RunsAs s (run_in c.ask-in-Get.new.self) t = 
+      let runs : RunsAs s (run_in c.ask-in-Get.new.self) t =
       subst (λ (q : Request). RunsAs s (run_in c.ask-in-Get.new.self) (asks s r c.in-Get.member q)) c.in_ok-request-in-Get.ensures (f r k) in
       subst (Stepped s c.args.line (run_in c.ask-in-Get.new.self) r) (sym c.in-Get.is) (t, own_get s c.args.line r c.in-Get.member c.in-Get.key c.in-Get.bookmarks, runs)) c.ask-in-Get.ensures.ok;
 }
@@ -94,7 +94,7 @@ returns-in_ok-piece-in-Bytes c = record {
   ok = on_ok_weaker c.feed.result (λ f r k.
       let s = c.args.setup.now in
       let t : ListRun = feeds (cluster_of s) r (c.in-Bytes.conn - 1) c.in-Bytes.bytes in
-      let runs : RunsAs s (run_in c.feed.new.self) t = 
+      let runs : RunsAs s (run_in c.feed.new.self) t =
       subst (λ (b : List ℕ). RunsAs s (run_in c.feed.new.self) (feeds (cluster_of s) r (c.in-Bytes.conn - 1) b))
       c.in_ok-piece-in-Bytes.ensures.equal (f r k) in
       subst (Stepped s c.args.line (run_in c.feed.new.self) r) (sym c.in-Bytes.is) (t, own_bytes s c.args.line r c.in-Bytes.conn c.in-Bytes.bytes, runs)) c.feed.ensures.ok;
