@@ -305,7 +305,8 @@ fn read(alloc: Global, source: &str) -> Result<Statement, ParseError>
 /// The statement that a source spells: the grammar of `docs/CYPHER.md` over its longest tokens, with the names of its
 /// columns. `Syntax` comes exactly where no statement is spelled. Its `at` is the byte of the first token that no
 /// spelling continues, or the source's length where the end does not continue one. Its kind is `BadToken` exactly where
-/// the bytes there begin no token. It takes linear time, but for the keys of one CREATE, which are held in order.
+/// the bytes there begin no token. It takes linear time, but for keys of one CREATE whose hash has the place of an earlier one's:
+/// these are held in order.
 pub fn parse(alloc: Global, source: &str) -> Result<Statement, ParseError>
     // What is read is spelled so.
     ensures found { IfOk result (λ s. Spelled s source.now) }

@@ -1,7 +1,7 @@
-use Rattle.std.proofs.Common.{◌≡◌, ◌||◌, Option, ℕ, sym, Some, None, false, true, ap, ◌∙◌, slice_get, length}
+use Rattle.std.proofs.Common.{◌≡◌, Option, ℕ, sym, Some, None, ap, ◌∙◌, slice_get, length}
 use Rattle.std.specs.BTreeSet.{contains_text}
 use Rattle.ncc_cypher.specs.Grammar.{has}
-use Rattle.ncc_cypher.specs.Slots.{HoldsAt, is_at, place}
+use Rattle.ncc_cypher.specs.Slots.{HoldsAt, place}
 use Rattle.ncc_cypher.proofs.Slots.{found}
 use Rattle.ncc_cypher.proofs.draft.Draft.has.Goals as goal
 

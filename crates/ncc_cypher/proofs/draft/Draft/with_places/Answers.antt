@@ -1,4 +1,4 @@
-use Rattle.std.proofs.Common.{◌≡◌, Option, ℕ, List, None, false, [], replicate, refl, sym, ◌∙◌}
+use Rattle.std.proofs.Common.{◌≡◌, Option, ℕ, None, false, replicate}
 use Rattle.std.specs.BTreeSet.{contains_text}
 use Rattle.ncc_cypher.proofs.Slots.{empty, filled}
 use Rattle.ncc_cypher.proofs.draft.Draft.with_places.Goals as goal
