@@ -1,5 +1,6 @@
 -- Where a key of a list of pairs is found: by its place, or in a set beside.
-use Rattle.std.specs.Prelude.{◌≡◌, ℕ, Bool, true, false, cond, ◌||◌, List, [], ◌∷◌, Option, Some, None, ◌+◌, ◌*◌, ◌%◌, ◌^◌, ◌<◌, length, slice_get, nat_eq}
+use Rattle.std.specs.Prelude.{◌≡◌, ◌<◌, ℕ, ◌+◌, ◌*◌, ◌%◌, ◌^◌, nat_eq, Bool, true, false, cond, ◌||◌, Option, Some, None}
+use Rattle.std.specs.Prelude.{List, [], ◌∷◌, length, slice_get}
 use Rattle.std.specs.Str.{bytes_eq}
 use Rattle.ncc_cypher.specs.declared.tree.Pair.{Pair}
 use Rattle.ncc_cypher.specs.Grammar.{Name, has}
