@@ -9,7 +9,7 @@ use Rattle.std.proofs.lemmas.Option.{slice_get-get_or, slice_get_within, slice_g
 use Rattle.std.proofs.Math.Seq.{get_or-append_seam}
 use Rattle.ncc_cypher.specs.declared.tree.Pair.{Pair}
 use Rattle.ncc_cypher.specs.Grammar.{Name, has}
-use Rattle.ncc_cypher.specs.Slots.{place, has_key, is_at, is_free, HoldsAt, Holds}
+use Rattle.ncc_cypher.specs.Slots.{place, has_key, is_at, is_free, kept_at, kept, HoldsAt, Holds}
 use Rattle.ncc_cypher.proofs.Keys.{has_more}
 
 -- ---- elements of lists
@@ -104,94 +104,106 @@ fills (Some None) ps p q other free h = (
 
 -- ---- all places
 
-abbrev place_of : List (Option ℕ) → Name → ℕ
-place_of slots q = place (length slots) q
+kept_set : (taken : List Bool) (numbers : List ℕ) (i n : ℕ) → i < length taken → i < length numbers → kept (set taken i true) (set numbers i n) i ≡ Some (Some n)
+kept_set taken numbers i n a b = rw (get_set taken i true a) (rw (get_set numbers i n b) refl)
+
+kept_other : (taken : List Bool) (numbers : List ℕ) (i j n : ℕ) → (j ≡ i → ⊥) → kept (set taken i true) (set numbers i n) j ≡ kept taken numbers j
+kept_other taken numbers i j n ne = rw (get_other taken i j true ne) (rw (get_other numbers i j n ne) refl)
+
+abbrev place_of : List Bool → Name → ℕ
+place_of taken q = place (length taken) q
 
 -- keys of two places differ
-apart : (slots : List (Option ℕ)) (k q : Name) → (place_of slots k ≡ place_of slots q → ⊥) → bytes_eq k q ≡ false
-apart slots k q ne = false_from_ne_true (bytes_eq k q) (λ t. ne (ap (place_of slots) ((bytes_eq-Decides k q).0 t)))
+apart : (taken : List Bool) (k q : Name) → (place_of taken k ≡ place_of taken q → ⊥) → bytes_eq k q ≡ false
+apart taken k q ne = false_from_ne_true (bytes_eq k q) (λ t. ne (ap (place_of taken) ((bytes_eq-Decides k q).0 t)))
 
-pub with_other : (slots : List (Option ℕ)) (ps : List Pair) (p : Pair) → is_free (slice_get slots (place (length slots) p.key)) ≡ false → (q : Name) (other : Bool)
-    → Holds slots other ps q → Holds slots (cond (bytes_eq p.key q) true other) (ps ++ p ∷ []) q
-with_other slots ps p taken q other h =
-    besides (slice_get slots (place (length slots) q)) ps p q other (λ free. false_from_ne_true (bytes_eq p.key q) (λ t.
+pub with_other : (taken : List Bool) (numbers : List ℕ) (ps : List Pair) (p : Pair) → is_free (kept taken numbers (place (length taken) p.key)) ≡ false → (q : Name) (other : Bool)
+    → Holds taken numbers other ps q → Holds taken numbers (cond (bytes_eq p.key q) true other) (ps ++ p ∷ []) q
+with_other taken numbers ps p full q other h =
+    besides (kept taken numbers (place (length taken) q)) ps p q other (λ free. false_from_ne_true (bytes_eq p.key q) (λ t.
     let e : p.key ≡ q = (bytes_eq-Decides p.key q).0 t in
-    let f : is_free (slice_get slots (place (length slots) p.key)) ≡ is_free (slice_get slots (place (length slots) q)) = ap (λ (z : Name). is_free (slice_get slots (place (length slots) z))) e in
-    no_both (sym taken ∙ f ∙ free))) h where
+    let f : is_free (kept taken numbers (place (length taken) p.key)) ≡ is_free (kept taken numbers (place (length taken) q)) = ap (λ (z : Name). is_free (kept taken numbers (place (length taken) z))) e in
+    no_both (sym full ∙ f ∙ free))) h where
       no_both : false ≡ true → ⊥
       no_both e = absurd cc
 
-free_within : (slots : List (Option ℕ)) (i : ℕ) (s : Option (Option ℕ)) → slice_get slots i ≡ s → is_free s ≡ true → i < length slots
-free_within slots i None e free = absurd cc
-free_within slots i (Some x) e free = slice_get_within slots i x e
+pub within : (taken : List Bool) (numbers : List ℕ) (i : ℕ) → is_free (kept taken numbers i) ≡ true → (i < length taken) × (i < length numbers)
+within taken numbers i free = go (slice_get taken i) refl (slice_get numbers i) refl free where
+  go : (b : Option Bool) → slice_get taken i ≡ b → (n : Option ℕ) → slice_get numbers i ≡ n → is_free (kept_at b n) ≡ true → (i < length taken) × (i < length numbers)
+  go None e n f free = absurd cc
+  go (Some true) e None f free = absurd cc
+  go (Some false) e None f free = absurd cc
+  go (Some true) e (Some n) f free = absurd cc
+  go (Some false) e (Some n) f free = (slice_get_within taken i false e, slice_get_within numbers i n f)
 
-pub within : (slots : List (Option ℕ)) (i : ℕ) → is_free (slice_get slots i) ≡ true → i < length slots
-within slots i free = free_within slots i (slice_get slots i) refl free
-
-pub with_first : (slots : List (Option ℕ)) (ps : List Pair) (p : Pair) → is_free (slice_get slots (place (length slots) p.key)) ≡ true → (q : Name) (other : Bool)
-    → Holds slots other ps q → Holds (set slots (place (length slots) p.key) (Some (length ps))) other (ps ++ p ∷ []) q
-with_first slots ps p free q other h =
-    let at : ℕ = place (length slots) p.key in
-    let many : length (set slots at (Some (length ps))) ≡ length slots = length-set slots at (Some (length ps)) in
-    subst (λ (n : ℕ). HoldsAt (slice_get (set slots at (Some (length ps))) (place n q)) other (ps ++ p ∷ []) q) (sym many) (go (nat_eq (place (length slots) q) at) refl) where
-      go : (r : Bool) → nat_eq (place (length slots) q) (place (length slots) p.key) ≡ r
-          → HoldsAt (slice_get (set slots (place (length slots) p.key) (Some (length ps))) (place (length slots) q)) other (ps ++ p ∷ []) q
+pub with_first : (taken : List Bool) (numbers : List ℕ) (ps : List Pair) (p : Pair) → is_free (kept taken numbers (place (length taken) p.key)) ≡ true → (q : Name) (other : Bool)
+    → Holds taken numbers other ps q → Holds (set taken (place (length taken) p.key) true) (set numbers (place (length taken) p.key) (length ps)) other (ps ++ p ∷ []) q
+with_first taken numbers ps p free q other h =
+    let at : ℕ = place (length taken) p.key in
+    let many : length (set taken at true) ≡ length taken = length-set taken at true in
+    subst (λ (n : ℕ). HoldsAt (kept (set taken at true) (set numbers at (length ps)) (place n q)) other (ps ++ p ∷ []) q) (sym many) (go (nat_eq (place (length taken) q) at) refl) where
+      go : (r : Bool) → nat_eq (place (length taken) q) (place (length taken) p.key) ≡ r
+          → HoldsAt (kept (set taken (place (length taken) p.key) true) (set numbers (place (length taken) p.key) (length ps)) (place (length taken) q)) other (ps ++ p ∷ []) q
       go true e =
-          let same : place (length slots) q ≡ place (length slots) p.key = eqb-true (place (length slots) q) (place (length slots) p.key) e in
-          let here : is_free (slice_get slots (place (length slots) q)) ≡ true = rw same free in
-          let new : slice_get (set slots (place (length slots) p.key) (Some (length ps))) (place (length slots) q) ≡ Some (Some (length ps))
-          = rw same (get_set slots (place (length slots) p.key) (Some (length ps)) (within slots (place (length slots) p.key) free)) in
-          subst (λ (z : Option (Option ℕ)). HoldsAt z other (ps ++ p ∷ []) q) (sym new) (fills (slice_get slots (place (length slots) q)) ps p q other here h)
+          let same : place (length taken) q ≡ place (length taken) p.key = eqb-true (place (length taken) q) (place (length taken) p.key) e in
+          let here : is_free (kept taken numbers (place (length taken) q)) ≡ true = rw same free in
+          let room : (place (length taken) p.key < length taken) × (place (length taken) p.key < length numbers) = within taken numbers (place (length taken) p.key) free in
+          let new : kept (set taken (place (length taken) p.key) true) (set numbers (place (length taken) p.key) (length ps)) (place (length taken) q) ≡ Some (Some (length ps))
+          = rw same (kept_set taken numbers (place (length taken) p.key) (length ps) room.0 room.1) in
+          subst (λ (z : Option (Option ℕ)). HoldsAt z other (ps ++ p ∷ []) q) (sym new) (fills (kept taken numbers (place (length taken) q)) ps p q other here h)
       go false e =
-          let ne : place (length slots) q ≡ place (length slots) p.key → ⊥ = eqb-false (place (length slots) q) (place (length slots) p.key) e in
-          let old : slice_get (set slots (place (length slots) p.key) (Some (length ps))) (place (length slots) q) ≡ slice_get slots (place (length slots) q)
-          = get_other slots (place (length slots) p.key) (place (length slots) q) (Some (length ps)) ne in
-          let differ : bytes_eq p.key q ≡ false = apart slots p.key q (λ f. ne (sym f)) in
-          subst (λ (z : Option (Option ℕ)). HoldsAt z other (ps ++ p ∷ []) q) (sym old) (stays (slice_get slots (place (length slots) q)) ps p q other differ h)
+          let ne : place (length taken) q ≡ place (length taken) p.key → ⊥ = eqb-false (place (length taken) q) (place (length taken) p.key) e in
+          let old : kept (set taken (place (length taken) p.key) true) (set numbers (place (length taken) p.key) (length ps)) (place (length taken) q) ≡ kept taken numbers (place (length taken) q)
+          = kept_other taken numbers (place (length taken) p.key) (place (length taken) q) (length ps) ne in
+          let differ : bytes_eq p.key q ≡ false = apart taken p.key q (λ f. ne (sym f)) in
+          subst (λ (z : Option (Option ℕ)). HoldsAt z other (ps ++ p ∷ []) q) (sym old) (stays (kept taken numbers (place (length taken) q)) ps p q other differ h)
 
 -- ---- what is found
 
-pub found : (slots : List (Option ℕ)) (ps : List Pair) (q : Name) (other : Bool) (s : Option (Option ℕ)) → s ≡ slice_get slots (place (length slots) q) → Holds slots other ps q → HoldsAt s other ps q
-found slots ps q other s e h = rw e h
+pub found : (taken : List Bool) (numbers : List ℕ) (ps : List Pair) (q : Name) (other : Bool) (s : Option (Option ℕ)) → s ≡ kept taken numbers (place (length taken) q)
+    → Holds taken numbers other ps q → HoldsAt s other ps q
+found taken numbers ps q other s e h = rw e h
 
-abbrev nones : ℕ → List (Option ℕ)
-nones n = replicate n None
-
-none_at : (n i : ℕ) (q : Name) → HoldsAt (slice_get (nones n) i) false [] q
+none_at : (n i : ℕ) (q : Name) → HoldsAt (kept (replicate n false) (replicate n 0) i) false [] q
 none_at n i q = go (nat_lt i n) refl where
-  many : length (nones n) ≡ n
-  many = length-replicate n None
+  got : {A : Type 0} (x : A) → i < n → slice_get (replicate n x) i ≡ Some x
+  got x lt =
+      let in_range : i < length (replicate n x) = rw (length-replicate n x) lt in
+      slice_get-get_or (replicate n x) i x in_range ∙ ap Some (get_or-replicate n i x x lt)
 
-  go : (r : Bool) → nat_lt i n ≡ r → HoldsAt (slice_get (nones n) i) false [] q
+  go : (r : Bool) → nat_lt i n ≡ r → HoldsAt (kept (replicate n false) (replicate n 0) i) false [] q
   go true e =
       let lt : i < n = ltb-true i n e in
-      let in_range : i < length (nones n) = rw many lt in
-      let e : slice_get (nones n) i ≡ Some None = slice_get-get_or (nones n) i None in_range ∙ ap Some (get_or-replicate n i None None lt) in
-      subst (λ (z : Option (Option ℕ)). HoldsAt z false [] q) (sym e) (refl, refl)
+      let free : kept (replicate n false) (replicate n 0) i ≡ Some None = rw (got false lt) (rw (got {A = ℕ} 0 lt) refl) in
+      subst (λ (z : Option (Option ℕ)). HoldsAt z false [] q) (sym free) (refl, refl)
   go false e =
-      let le : length (nones n) ≤ i = rw many (ltb-false i n e) in
-      subst (λ (z : Option (Option ℕ)). HoldsAt z false [] q) (sym (slice_get_past (nones n) i le)) refl
+      let le : length (replicate n false) ≤ i = rw (length-replicate n false) (ltb-false i n e) in
+      let none : kept (replicate n false) (replicate n 0) i ≡ None = rw (slice_get_past (replicate n false) i le) refl in
+      subst (λ (z : Option (Option ℕ)). HoldsAt z false [] q) (sym none) refl
 
-pub empty : (slots : List (Option ℕ)) (n : ℕ) (other : Bool) (ps : List Pair) (q : Name) → slots ≡ replicate n None → other ≡ false → ps ≡ [] → Holds slots other ps q
-empty slots n other ps q a b e = rw a (rw b (rw e (none_at n (place (length (nones n)) q) q)))
+pub empty : (taken : List Bool) (numbers : List ℕ) (n : ℕ) (other : Bool) (ps : List Pair) (q : Name) → taken ≡ replicate n false → numbers ≡ replicate n 0 → other ≡ false → ps ≡ []
+    → Holds taken numbers other ps q
+empty taken numbers n other ps q a m b e = rw a (rw m (rw b (rw e (none_at n (place (length (replicate n false)) q) q))))
 
 -- the same, with what the code has
-pub first : (slots : List (Option ℕ)) (ps : List Pair) (p : Pair) (at n : ℕ) (now : List Pair) → at ≡ place (length slots) p.key → is_free (slice_get slots at) ≡ true → n ≡ length ps
-    → now ≡ ps ++ p ∷ [] → (q : Name) (other : Bool) → Holds slots other ps q → Holds (set slots at (Some n)) other now q
-first slots ps p at n now e free f g q other h = rw e (rw f (rw g (with_first slots ps p (subst (λ (z : ℕ). is_free (slice_get slots z) ≡ true) e free) q other h)))
+pub first : (taken : List Bool) (numbers : List ℕ) (ps : List Pair) (p : Pair) (at n : ℕ) (now : List Pair) → at ≡ place (length taken) p.key → is_free (kept taken numbers at) ≡ true
+    → n ≡ length ps → now ≡ ps ++ p ∷ [] → (q : Name) (other : Bool) → Holds taken numbers other ps q → Holds (set taken at true) (set numbers at n) other now q
+first taken numbers ps p at n now e free f g q other h =
+    rw e (rw f (rw g (with_first taken numbers ps p (subst (λ (z : ℕ). is_free (kept taken numbers z) ≡ true) e free) q other h)))
 
-pub beside : (slots : List (Option ℕ)) (ps : List Pair) (p : Pair) (at : ℕ) (k : Name) (now : List Pair) (with_key : Bool) → at ≡ place (length slots) p.key → is_free (slice_get slots at) ≡ false
-    → p.key ≡ k → now ≡ ps ++ p ∷ [] → (q : Name) (other : Bool) → with_key ≡ cond (bytes_eq k q) true other → Holds slots other ps q → Holds slots with_key now q
-beside slots ps p at k now with_key e taken f g q other w h =
-    rw g (rw w (subst (λ (z : Name). Holds slots (cond (bytes_eq z q) true other) (ps ++ p ∷ []) q) f
-    (with_other slots ps p (subst (λ (z : ℕ). is_free (slice_get slots z) ≡ false) e taken) q other h)))
+pub beside : (taken : List Bool) (numbers : List ℕ) (ps : List Pair) (p : Pair) (at : ℕ) (k : Name) (now : List Pair) (with_key : Bool) → at ≡ place (length taken) p.key
+    → is_free (kept taken numbers at) ≡ false → p.key ≡ k → now ≡ ps ++ p ∷ [] → (q : Name) (other : Bool) → with_key ≡ cond (bytes_eq k q) true other
+    → Holds taken numbers other ps q → Holds taken numbers with_key now q
+beside taken numbers ps p at k now with_key e full f g q other w h =
+    rw g (rw w (subst (λ (z : Name). Holds taken numbers (cond (bytes_eq z q) true other) (ps ++ p ∷ []) q) f
+    (with_other taken numbers ps p (subst (λ (z : ℕ). is_free (kept taken numbers z) ≡ false) e full) q other h)))
 
-take_none : (n : ℕ) → take {A = Option ℕ} n [] ≡ []
+take_none : {A : Type 0} (n : ℕ) → take {A = A} n [] ≡ []
 take_none zero = refl
 take_none (suc n) = refl
 
 -- places that were made from none
-pub filled : (n m : ℕ) (xs all : List (Option ℕ)) → xs ≡ [] → m ≡ 0 → all ≡ take n xs ++ replicate (n - m) None → all ≡ replicate n None
-filled n m xs all a b e =
+pub filled : {A : Type 0} (x : A) (n m : ℕ) (xs all : List A) → xs ≡ [] → m ≡ 0 → all ≡ take n xs ++ replicate (n - m) x → all ≡ replicate n x
+filled {A} x n m xs all a b e =
     let whole : n - m ≡ n = omega (arith, b) in
-    e ∙ ap (λ (z : List (Option ℕ)). take n z ++ replicate (n - m) None) a ∙ ap (λ (z : List (Option ℕ)). z ++ replicate (n - m) None) (take_none n) ∙ ap (λ (k : ℕ). replicate k None) whole
+    e ∙ ap (λ (z : List A). take n z ++ replicate (n - m) x) a ∙ ap (λ (z : List A). z ++ replicate (n - m) x) (take_none n) ∙ ap (λ (k : ℕ). replicate k x) whole

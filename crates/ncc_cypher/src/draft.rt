@@ -2,7 +2,7 @@
 
 ghost use Rattle.std.specs.Prelude.{◌≡◌, ◌++◌, ◌∷◌, [], IfOk, slice_get};
 ghost use Rattle.ncc_cypher.specs.Grammar.{has};
-ghost use Rattle.ncc_cypher.specs.Slots.{hash, hash_from, mix, place, is_at, is_free};
+ghost use Rattle.ncc_cypher.specs.Slots.{hash, hash_from, mix, place, is_at, is_free, kept};
 
 use crate::tree::{Pair, Pairs};
 use ncc_pack::Memory;
@@ -51,24 +51,22 @@ fn is_at(pairs: &[Pair], number: u32, key: &str) -> bool
     }
 }
 
-/// What a place keeps, where there is such a place.
-fn slot(slots: &[Option<u32>], at: usize) -> Option<Option<u32>>
-    ensures { result ≡ slice_get slots.now at }
+/// What a place keeps, where there is such a place. The number is loaded only where a key has the place.
+fn slot(taken: &[bool], numbers: &[u32], at: usize) -> Option<Option<u32>>
+    ensures { result ≡ kept taken.now numbers.now at }
 {
-    match slots.get(at) {
-        Some(slot) => Some(*slot),
-        None => None,
+    match (taken.get(at), numbers.get(at)) {
+        (Some(false), Some(_)) => Some(None),
+        (Some(true), Some(number)) => Some(Some(*number)),
+        _ => None,
     }
 }
 
 /// Says whether there is such a place, and no key has it.
-fn is_free(slots: &[Option<u32>], at: usize) -> bool
-    ensures { result ≡ is_free (slice_get slots.now at) }
+fn is_free(taken: &[bool], numbers: &[u32], at: usize) -> bool
+    ensures { result ≡ is_free (kept taken.now numbers.now at) }
 {
-    match slots.get(at) {
-        Some(None) => true,
-        _ => false,
-    }
+    matches!(slot(taken, numbers, at), Some(None))
 }
 
 /// Pairs, so that a key is found at once in nearly all cases, and in the time of a logarithm in each. The first key of a place is found
@@ -76,8 +74,10 @@ fn is_free(slots: &[Option<u32>], at: usize) -> bool
 #[derive(Drop)]
 pub(crate) struct Draft {
     pairs: Pairs,
-    /// For each place, the number of the first pair whose key has it.
-    slots: Vec<Option<u32>>,
+    /// For each place, whether a key has it. Most keys are new, and read no more than this: it is small, so it stays near.
+    taken: Vec<bool>,
+    /// For each place that a key has, the number of the first pair whose key has it.
+    numbers: Vec<u32>,
     /// The keys whose place was taken, or that have none.
     others: BTreeSet<String>,
 }
@@ -92,7 +92,7 @@ impl Model for Draft {
 
     ghost view = { λ d. d.pairs };
 
-    ghost invariant = { λ d. (q : List ℕ) → Holds d.slots.items (contains_text d.others q) d.pairs q };
+    ghost invariant = { λ d. (q : List ℕ) → Holds d.taken.items d.numbers.items (contains_text d.others q) d.pairs q };
 }
 
 impl Draft {
@@ -102,7 +102,8 @@ impl Draft {
     {
         Draft {
             pairs: Pairs::new(alloc),
-            slots: Vec::new(alloc),
+            taken: Vec::new(alloc),
+            numbers: Vec::new(alloc),
             others: BTreeSet::new(alloc),
         }
     }
@@ -111,11 +112,14 @@ impl Draft {
     pub(crate) fn with_places(alloc: Global, count: usize) -> Result<Draft, Memory>
         ensures { IfOk result (λ d. d ≡ []) }
     {
-        let mut slots = Vec::new(alloc);
-        slots.resize(count, None)?;
+        let mut taken = Vec::new(alloc);
+        taken.resize(count, false)?;
+        let mut numbers = Vec::new(alloc);
+        numbers.resize(count, 0u32)?;
         Ok(Draft {
             pairs: Pairs::new(alloc),
-            slots,
+            taken,
+            numbers,
             others: BTreeSet::new(alloc),
         })
     }
@@ -124,8 +128,8 @@ impl Draft {
     pub(crate) fn has(&self, key: &str) -> bool
         ensures { result ≡ has key.now self.now }
     {
-        let at = place(self.slots.len(), key);
-        match slot(self.slots.as_slice(), at) {
+        let at = place(self.taken.len(), key);
+        match slot(self.taken.as_slice(), self.numbers.as_slice(), at) {
             Some(None) => false,
             Some(Some(number)) => {
                 is_at(self.pairs.as_slice(), number, key) || self.others.contains(key)
@@ -140,19 +144,22 @@ impl Draft {
     {
         let Draft {
             mut pairs,
-            mut slots,
+            mut taken,
+            mut numbers,
             mut others,
         } = self;
         let Ok(number) = u32::try_from(pairs.len()) else {
             return Err(AllocError);
         };
-        let at = place(slots.len(), pair.key.as_str());
-        if is_free(slots.as_slice(), at) {
-            slots[at] = Some(number);
+        let at = place(taken.len(), pair.key.as_str());
+        if is_free(taken.as_slice(), numbers.as_slice(), at) {
+            taken[at] = true;
+            numbers[at] = number;
             pairs.push(pair)?;
             return Ok(Draft {
                 pairs,
-                slots,
+                taken,
+                numbers,
                 others,
             });
         }
@@ -161,7 +168,8 @@ impl Draft {
         pairs.push(pair)?;
         Ok(Draft {
             pairs,
-            slots,
+            taken,
+            numbers,
             others,
         })
     }
