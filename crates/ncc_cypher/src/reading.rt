@@ -14,7 +14,8 @@ ghost use Rattle.ncc_cypher.specs.Place.{Made};
 ghost use Rattle.ncc_cypher.specs.Place as p;
 ghost use Rattle.ncc_cypher.specs.State as s;
 ghost use Rattle.ncc_cypher.specs.Machine.{a_made, is_find};
-ghost use Rattle.ncc_cypher.specs.Reading.{Moves, Ends, Gives, reads, left, column_values, Fewer, Same, NoPlus, NoComma, NoReturn, NoRest, full};
+ghost use Rattle.ncc_cypher.specs.Reading.{Moves, Ends, Gives, reads, left, column_values, full};
+ghost use Rattle.ncc_cypher.specs.Reading.{Fewer, Same, NoPlus, NoComma, NoReturn, NoRest};
 ghost use Rattle.ncc_cypher.specs.Spelled.{Spelled, Stopped, IsOrMemory};
 ghost use Rattle.ncc_cypher.specs.Columns.{columns, Within};
 ghost use Rattle.ncc_cypher.specs.Parsed.{parsed, IsAnswer};
@@ -116,7 +117,8 @@ impl<'a> Reader<'a> {
         requires last { NoReturn self.old.token }
         ensures columns { OnOk result (columns (left self.old) ≡ []) }
         ensures ends { (names : List Name) (a : Made) (ps : List Pair) (x : Pair)
-            → Ends names (λ _. full a.head a.name (c.Set (ps ++ x ∷ [])) l.Nothing) result (reads names (s.After (p.InSet a ps x.key) x.value.terms) self.old) }
+            → Ends names (λ _. full a.head a.name (c.Set (ps ++ x ∷ [])) l.Nothing) result
+            (reads names (s.After (p.InSet a ps x.key) x.value.terms) self.old) }
     {
         self.end()
     }
