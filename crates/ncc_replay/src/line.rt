@@ -19,7 +19,7 @@ use crate::status::Cause;
 use itoa::Buffer;
 use ncc_bookmark::{Bookmark, BookmarkError};
 use ncc_pack::{Bytes, Text};
-use ncc_world::{Bookmarks, Event, Kind, Setup};
+use ncc_world::{Bookmarks, Event, Job, Kind, Setup};
 use std::alloc::{AllocError, Global};
 use thiserror::Error;
 
@@ -63,6 +63,12 @@ enum Verb {
     Open,
     Bytes,
     Close,
+    Session,
+    Work,
+    Up,
+    Down,
+    Pump,
+    Cut,
 }
 
 // A line with another first word is refused before anything else is looked at.
@@ -79,6 +85,12 @@ fn verb_of(word: &[u8]) -> Option<Verb>
         b"open" => Some(Verb::Open),
         b"bytes" => Some(Verb::Bytes),
         b"close" => Some(Verb::Close),
+        b"session" => Some(Verb::Session),
+        b"work" => Some(Verb::Work),
+        b"up" => Some(Verb::Up),
+        b"down" => Some(Verb::Down),
+        b"pump" => Some(Verb::Pump),
+        b"cut" => Some(Verb::Cut),
         _ => None,
     }
 }
@@ -429,6 +441,144 @@ fn bytes(alloc: Global, cluster: u64, rest: Option<&[u8]>) -> Result<Event, Line
     Ok(Event::Bytes { conn, bytes })
 }
 
+// The number of the word, which may have a sign in front.
+fn signed(word: &[u8]) -> Option<i64> {
+    let Ok(text) = str::from_utf8(word) else {
+        return None;
+    };
+    let n: i64 = text.parse().ok()?;
+    if Buffer::new().format(n).as_bytes() != word {
+        return None;
+    }
+    Some(n)
+}
+
+fn next_signed(rest: Option<&[u8]>) -> Option<(i64, Option<&[u8]>)> {
+    let (word, rest) = next_word(rest)?;
+    let n = signed(word)?;
+    Some((n, rest))
+}
+
+// What follows `add`.
+fn add(alloc: Global, rest: Option<&[u8]>) -> Result<Job, LineError> {
+    let Some((key, rest)) = next_name(rest) else {
+        return Err(BAD_LINE);
+    };
+    let Some((by, rest)) = next_signed(rest) else {
+        return Err(BAD_LINE);
+    };
+    if rest.is_some() {
+        return Err(BAD_LINE);
+    }
+    let key = Text::from_str(alloc, key)?;
+    Ok(Job::Add { key, by })
+}
+
+// What follows `put` in a `work`.
+fn put_job(alloc: Global, rest: Option<&[u8]>) -> Result<Job, LineError> {
+    let Some((key, rest)) = next_name(rest) else {
+        return Err(BAD_LINE);
+    };
+    let Some((value, rest)) = next_name(rest) else {
+        return Err(BAD_LINE);
+    };
+    if rest.is_some() {
+        return Err(BAD_LINE);
+    }
+    let key = Text::from_str(alloc, key)?;
+    let value = Text::from_str(alloc, value)?;
+    Ok(Job::Put { key, value })
+}
+
+// What follows `get` in a `work`.
+fn get_job(alloc: Global, rest: Option<&[u8]>) -> Result<Job, LineError> {
+    let Some((key, rest)) = next_name(rest) else {
+        return Err(BAD_LINE);
+    };
+    if rest.is_some() {
+        return Err(BAD_LINE);
+    }
+    let key = Text::from_str(alloc, key)?;
+    Ok(Job::Get { key })
+}
+
+// The job that a word and what follows it say.
+fn job(alloc: Global, word: &[u8], rest: Option<&[u8]>) -> Result<Job, LineError> {
+    match word {
+        b"add" => add(alloc, rest),
+        b"put" => put_job(alloc, rest),
+        b"get" => get_job(alloc, rest),
+        _ => Err(BAD_LINE),
+    }
+}
+
+fn session(rest: Option<&[u8]>) -> Option<Event> {
+    let (seed, rest) = next_number(rest, u64::MAX)?;
+    if rest.is_some() {
+        return None;
+    }
+    Some(Event::Session { seed })
+}
+
+fn work(alloc: Global, rest: Option<&[u8]>) -> Result<Event, LineError> {
+    let Some((session, rest)) = next_number(rest, u64::MAX) else {
+        return Err(BAD_LINE);
+    };
+    let Some((word, rest)) = next_word(rest) else {
+        return Err(BAD_LINE);
+    };
+    match job(alloc, word, rest) {
+        Ok(job) => Ok(Event::Work { session, job }),
+        Err(error) => Err(error),
+    }
+}
+
+// A session and a number of bytes.
+fn moves(rest: Option<&[u8]>) -> Option<(u64, u64)> {
+    let (session, rest) = next_number(rest, u64::MAX)?;
+    let (bytes, rest) = next_number(rest, u64::MAX)?;
+    if rest.is_some() {
+        return None;
+    }
+    Some((session, bytes))
+}
+
+fn up(rest: Option<&[u8]>) -> Option<Event> {
+    let (session, bytes) = moves(rest)?;
+    Some(Event::Up { session, bytes })
+}
+
+fn down(rest: Option<&[u8]>) -> Option<Event> {
+    let (session, bytes) = moves(rest)?;
+    Some(Event::Down { session, bytes })
+}
+
+// How many requests go up, where that is said.
+fn limit(rest: Option<&[u8]>) -> Option<Option<u64>> {
+    if rest.is_none() {
+        return Some(None);
+    }
+    let (requests, rest) = next_number(rest, u64::MAX)?;
+    if requests == 0 || rest.is_some() {
+        return None;
+    }
+    Some(Some(requests))
+}
+
+fn pump(rest: Option<&[u8]>) -> Option<Event> {
+    let (session, rest) = next_number(rest, u64::MAX)?;
+    let requests = limit(rest)?;
+    Some(Event::Pump { session, requests })
+}
+
+fn cut_link(rest: Option<&[u8]>) -> Option<Event> {
+    let (session, rest) = next_number(rest, u64::MAX)?;
+    if rest.is_some() {
+        return None;
+    }
+    Some(Event::Cut { session })
+}
+
 // The event that a verb and what follows it say.
 fn event(alloc: Global, cluster: u64, verb: Verb, rest: Option<&[u8]>) -> Result<Event, LineError>
     ensures ok { IfOk result (λ e. AreWords cluster (verb_word verb ∷ words_in rest.entry) e) }
@@ -444,6 +594,12 @@ fn event(alloc: Global, cluster: u64, verb: Verb, rest: Option<&[u8]>) -> Result
         Verb::Open => open(rest).ok_or(BAD_LINE),
         Verb::Bytes => bytes(alloc, cluster, rest),
         Verb::Close => close(rest).ok_or(BAD_LINE),
+        Verb::Session => session(rest).ok_or(BAD_LINE),
+        Verb::Work => work(alloc, rest),
+        Verb::Up => up(rest).ok_or(BAD_LINE),
+        Verb::Down => down(rest).ok_or(BAD_LINE),
+        Verb::Pump => pump(rest).ok_or(BAD_LINE),
+        Verb::Cut => cut_link(rest).ok_or(BAD_LINE),
     }
 }
 

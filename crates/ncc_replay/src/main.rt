@@ -13,6 +13,7 @@ mod replay;
 mod report;
 mod script;
 mod status;
+mod work_line;
 
 use crate::replay::replay;
 use crate::status::{Status, status_number, status_text};

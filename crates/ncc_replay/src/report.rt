@@ -27,6 +27,7 @@ ghost use Rattle.ncc_replay.specs.Line.{hex};
 
 use crate::hex::append_hex;
 use crate::line::is_word;
+use crate::work_line::append_works;
 use itoa::Buffer;
 use ncc_pack::{Bytes, Rows, Text, Value, Values, encode_list_head, encode_values};
 use ncc_session::Fact;
@@ -470,6 +471,7 @@ pub fn report(world: &World, into: &mut Bytes) -> Result<(), AllocError>
 {
     into.extend(b"ncc-report 1\n")?;
     append_told(world.told().as_slice(), into)?;
+    append_works(world.works().as_slice(), into)?;
     append_conns(world.conns().as_slice(), into)?;
     append_outs(world.conns().as_slice(), into)?;
     append_members(world.members().as_slice(), into)?;

@@ -16,6 +16,7 @@ ghost use Rattle.ncc_world.specs.declared.served.Served.{Served as Serveds};
 
 use crate::answer::{Reply, answered};
 use crate::clients::Clients;
+use crate::drivers::Drivers;
 use crate::earlier::Earlier;
 use crate::error::WorldError;
 use crate::event::Event;
@@ -40,6 +41,7 @@ pub(crate) struct Running {
     pub(crate) told: Telling,
     /// What is kept of the transaction that is open at each connection.
     pub(crate) earlier: Vec<Option<Earlier>>,
+    pub(crate) drivers: Drivers,
 }
 
 // The lower of two numbers.
@@ -67,6 +69,7 @@ impl Running {
             clients,
             told: Telling::new(alloc),
             earlier: Vec::new(alloc),
+            drivers: Drivers::new(alloc, setup)?,
         })
     }
 
@@ -224,7 +227,7 @@ impl Running {
     }
 
     // Turn after turn, until nobody can be answered. Each lowers what is left to do.
-    fn settle(&mut self, alloc: Global, setup: &Setup, line: u64) -> Result<(), Memory>
+    pub(crate) fn settle(&mut self, alloc: Global, setup: &Setup, line: u64) -> Result<(), Memory>
         requires live { HasRun setup.now self.old }
         ensures ok { OnOk result ((r : ListRun) → RunsAs setup.now (run_in self.old) r →
             (t : ListRun) × Settles (cluster_of setup.now) line r t × RunsAs setup.now (run_in self.new) t) }
@@ -251,7 +254,7 @@ impl Running {
         if conn == 0 || self.clients.seen.len() as u64 <= conn - 1 {
             return false;
         }
-        self.clients.seen.as_slice()[conn as usize - 1].printed
+        self.clients.seen.as_slice()[conn as usize - 1].printed && !self.drivers.is_linked(conn)
     }
 
     /// Why an event is refused, if it is.
@@ -280,11 +283,21 @@ impl Running {
                 unless(self.is_open_made(setup, *conn), WorldError::NoConn)
             }
             Event::Close { conn } => unless(self.is_open_made(setup, *conn), WorldError::NoConn),
+            Event::Session { .. } => None,
+            Event::Work { session, .. } => self.drivers.refuses_work(*session),
+            Event::Up { session, .. } => unless(self.drivers.has(*session), WorldError::NoSession),
+            Event::Down { session, .. } => {
+                unless(self.drivers.has(*session), WorldError::NoSession)
+            }
+            Event::Pump { session, .. } => {
+                unless(self.drivers.has(*session), WorldError::NoSession)
+            }
+            Event::Cut { session } => unless(self.drivers.has(*session), WorldError::NoSession),
         }
     }
 
     // Bytes come in at the connection at an index. Once it is closed they do nothing.
-    fn feed(&mut self, setup: &Setup, index: usize, piece: Bytes) -> Result<(), Memory>
+    pub(crate) fn feed(&mut self, setup: &Setup, index: usize, piece: Bytes) -> Result<(), Memory>
         requires live { HasRun setup.now self.old }
         requires there { index < length (values self.old.clients.table) }
         ensures ok { OnOk result ((r : ListRun) → RunsAs setup.now (run_in self.old) r →
@@ -300,7 +313,7 @@ impl Running {
     }
 
     // The client closes the connection at an index.
-    fn close(&mut self, setup: &Setup, index: usize) -> Result<(), Memory>
+    pub(crate) fn close(&mut self, setup: &Setup, index: usize) -> Result<(), Memory>
         requires live { HasRun setup.now self.old }
         requires there { index < length (values self.old.clients.table) }
         ensures ok { OnOk result ((r : ListRun) → RunsAs setup.now (run_in self.old) r →
@@ -315,7 +328,7 @@ impl Running {
     }
 
     // A client connects to a member.
-    fn open(
+    pub(crate) fn open(
         &mut self,
         alloc: Global,
         setup: &Setup,
@@ -369,7 +382,7 @@ impl Running {
     }
 
     // The own step of an event.
-    fn step(&mut self, alloc: Global, setup: &Setup, event: &Event) -> Result<(), Memory>
+    fn step(&mut self, alloc: Global, setup: &Setup, line: u64, event: &Event) -> Result<(), Memory>
         requires allowed { IsSetup setup.now }
         requires live { HasRun setup.now self.old }
         requires may_happen { MayHappen setup.now.cluster event.now }
@@ -380,7 +393,7 @@ impl Running {
         match event {
             Event::Time { to } => {
                 self.clock = *to;
-                Ok(())
+                self.wake_all(alloc, setup, line)
             }
             Event::Put {
                 member,
@@ -406,6 +419,20 @@ impl Running {
                 self.feed(setup, *conn as usize - 1, piece)
             }
             Event::Close { conn } => self.close(setup, *conn as usize - 1),
+            Event::Session { seed } => self.drivers.make(alloc, setup, *seed),
+            Event::Work { session, job } => {
+                self.begin(alloc, setup, line, *session as usize - 1, job)
+            }
+            Event::Up { session, bytes } => {
+                self.rise_bytes(setup, *session as usize - 1, *bytes)
+            }
+            Event::Down { session, bytes } => {
+                self.fall(alloc, setup, line, *session as usize - 1, *bytes)
+            }
+            Event::Pump { session, requests } => {
+                self.pump(alloc, setup, line, *session as usize - 1, *requests)
+            }
+            Event::Cut { session } => self.cut(alloc, setup, line, *session as usize - 1),
         }
     }
 
@@ -424,7 +451,7 @@ impl Running {
         ensures ok { OnOk result ((r : ListRun) → RunsAs setup.now (run_in self.old) r →
             (t : ListRun) × Happens setup.now line event.now r t × RunsAs setup.now (run_in self.new) t) }
     {
-        self.step(alloc, setup, event)?;
+        self.step(alloc, setup, line, event)?;
         self.settle(alloc, setup, line)?;
         Ok(())
     }

@@ -16,7 +16,7 @@ ghost use Rattle.ncc_world.specs.World.{Stands, past, spent, is_refusal};
 use crate::error::{Which, WorldError};
 use crate::event::Event;
 use crate::running::Running;
-use crate::seen::{ConnList, MemberList, ToldList};
+use crate::seen::{ConnList, MemberList, ToldList, WorkList};
 use crate::setup::Setup;
 use ncc_apply::{Shelf, Stamp, View};
 use ncc_pack::Memory;
@@ -142,6 +142,11 @@ impl World {
         ensures conns { (r : ListRun) → Stands self.now r → result.now ≡ conns_of self.now.setup r }
     {
         &self.run.clients.seen
+    }
+
+    /// The works that have ended, the first first. It takes no memory.
+    pub fn works(&self) -> &WorkList {
+        self.run.drivers.works()
     }
 
     /// The history: the longest list that a member has applied. It takes no memory.
