@@ -63,8 +63,8 @@ pub fn worked_events()
     ensures nobody { (r : ListRun) (count : ℕ) → refusal r (event.Apply 0 count) ≡ Some error.NoMember }
     ensures unnamed { (s : Setup) (r : ListRun) (member : ℕ) (request : Request) (bytes : List ℕ)
         → refusal (asks s r member request) (event.Bytes (length r.clients + 1) bytes) ≡ Some error.NoConn }
-    ensures closed { (s : Setup) (r : ListRun) (conn : ℕ) (c : Client) (bytes : List ℕ) → slice_get r.clients (conn - 1) ≡ Some c
-        → c.closed ≡ true → own s (event.Bytes conn bytes) r ≡ r }
+    ensures closed { (s : Setup) (line : ℕ) (r : ListRun) (conn : ℕ) (c : Client) (bytes : List ℕ) → slice_get r.clients (conn - 1) ≡ Some c
+        → c.closed ≡ true → own s line (event.Bytes conn bytes) r ≡ r }
 {}
 
 /// Worked cases of a question to enter: it waits at its deadline, is late one millisecond past it, and is answered as soon

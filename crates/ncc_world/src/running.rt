@@ -8,7 +8,8 @@ ghost use Rattle.ncc_clients.specs.Run.{Client, reply, proposes, told_to, opened
 ghost use Rattle.ncc_clients.specs.Turn.{acts, Settles};
 ghost use Rattle.ncc_world.specs.Setting.{IsSetup, cluster_of, lagging};
 ghost use Rattle.ncc_world.specs.Events.{MayHappen};
-ghost use Rattle.ncc_world.specs.Happening.{ListRun, Happens, start_of, own, refusal, unless, asks, feeds, closes_one, is_member, is_open_made};
+ghost use Rattle.ncc_world.specs.Happening.{ListRun, Happens, Steps, start_of, refusal, unless, asks, is_member, is_open_made};
+ghost use Rattle.ncc_clients.specs.Drives.{feeds, closes_one};
 ghost use Rattle.ncc_world.specs.Earlier.{LeftFor};
 ghost use Rattle.ncc_world.specs.World.{RunsAs};
 ghost use Rattle.ncc_world.specs.Parts.{HasRun, LeftAt, TurnBy, Offered, DoesTo, first_acting, left_in, lower, number_of, reply_in, run_in};
@@ -301,7 +302,7 @@ impl Running {
         requires live { HasRun setup.now self.old }
         requires there { index < length (values self.old.clients.table) }
         ensures ok { OnOk result ((r : ListRun) → RunsAs setup.now (run_in self.old) r →
-            RunsAs setup.now (run_in self.new) (feeds setup.now r index piece)) }
+            RunsAs setup.now (run_in self.new) (feeds (cluster_of setup.now) r index piece)) }
     {
         if self.clients.served(index).closed {
             return Ok(());
@@ -382,13 +383,19 @@ impl Running {
     }
 
     // The own step of an event.
-    fn step(&mut self, alloc: Global, setup: &Setup, line: u64, event: &Event) -> Result<(), Memory>
+    fn step(
+        &mut self,
+        alloc: Global,
+        setup: &Setup,
+        line: u64,
+        event: &Event,
+    ) -> Result<(), Memory>
         requires allowed { IsSetup setup.now }
         requires live { HasRun setup.now self.old }
         requires may_happen { MayHappen setup.now.cluster event.now }
         requires taken { (r : ListRun) → RunsAs setup.now (run_in self.old) r → refusal r event.now ≡ None }
         ensures ok { OnOk result ((r : ListRun) → RunsAs setup.now (run_in self.old) r →
-            RunsAs setup.now (run_in self.new) (own setup.now event.now r)) }
+            (t : ListRun) × Steps setup.now line event.now r t × RunsAs setup.now (run_in self.new) t) }
     {
         match event {
             Event::Time { to } => {
