@@ -19,6 +19,9 @@ use Rattle.ncc_session.specs.Talk.{Talk, asked, fits_at, measure}
 use Rattle.ncc_clients.specs.Members.{Proposed, elsewhere, full, placed}
 use Rattle.ncc_clients.specs.Run.{Client, Placing, Reply, waits, tells, proposes, with_bytes, with_fact, with_placing, deadline_of}
 use Rattle.ncc_clients.specs.Run.{question_of, last_rows}
+use Rattle.ncc_clients.specs.Links.{Driver}
+use Rattle.ncc_clients.specs.Drives.{driver_at}
+use Rattle.ncc_driver.specs.declared.action.Action.{Action}
 use Rattle.ncc_tx.specs.declared.entry.Item.{Item}
 use Rattle.ncc_session.specs.Question.{Question, Row}
 use Rattle.ncc_clients.specs.Four.{Begins}
@@ -35,8 +38,10 @@ use Rattle.ncc_world.specs.declared.clients.Clients.{Clients}
 use Rattle.ncc_world.specs.declared.answer.Reply as declared
 use Rattle.ncc_world.specs.declared.answer.Reply.TheVariants as answer
 use Rattle.ncc_world.specs.declared.running.Running.{Running}
+use Rattle.ncc_world.specs.declared.drivers.Drivers.{Drivers}
 use Rattle.ncc_world.specs.Setting.{Lists, cluster_of}
 use Rattle.ncc_world.specs.Earlier.{LeftBy, LeftFor}
+use Rattle.ncc_world.specs.Drivers.{KeptDrivers, AreAtWork, AreDrivers}
 use Rattle.ncc_world.specs.Happening.{ListRun}
 use Rattle.ncc_world.specs.World.{KeptMembers, KeptClients, KeptRun, AreMembers, AreServed, RunsAs, placing_of}
 
@@ -202,3 +207,51 @@ DoesTo s line r index c reply k = (t : ListRun) × Does (cluster_of s) line r in
 abbrev pub TurnBy : Setup → ℕ → ListRun → KeptRun → Bool → Type 0
 TurnBy s line r k true = (t : ListRun) × Turn (cluster_of s) line r t × RunsAs s k t
 TurnBy s line r k false = AtRest (cluster_of s) r × RunsAs s k r
+
+-- ---- sessions of drivers
+
+abbrev pub drivers_in : Drivers → KeptDrivers
+drivers_in d = record {
+  list = d.list.items;
+  names = d.names;
+  sleepers = d.sleepers;
+  linked = set_keys d.linked;
+  works = d.works;
+}
+
+-- It stands for a run with its sessions, where the one at an index still has these actions to do, and those of these numbers are still to
+-- be woken.
+pub record RunsMid (s : Setup) (at : ℕ) (left : List Action) (pending : List ℕ) (w : Running) (r : ListRun) : Type 0 where
+  pub runs_as : RunsAs s (run_in w) r
+  pub drives : AreAtWork s at left pending (drivers_in w.drivers) r.now r.driving
+
+-- It stands for a run with its sessions.
+abbrev pub RunsAll : Setup → Running → ListRun → Type 0
+RunsAll s w r = RunsMid s 0 [] [] w r
+
+pub record HasAll (s : Setup) (w : Running) : Type 0 where
+  pub run : ListRun
+  pub runs_all : RunsAll s w run
+
+-- In the middle of what the session at an index does; there is such a session.
+pub record HasMid (s : Setup) (at : ℕ) (w : Running) : Type 0 where
+  pub run : ListRun
+  pub left : List Action
+  pub pending : List ℕ
+  pub runs_mid : RunsMid s at left pending w run
+  pub driver : Driver
+  pub there : driver_at run at ≡ Some driver
+
+-- the same where it has all done
+pub record HasDone (s : Setup) (at : ℕ) (w : Running) : Type 0 where
+  pub run : ListRun
+  pub pending : List ℕ
+  pub runs_mid : RunsMid s at [] pending w run
+  pub driver : Driver
+  pub there : driver_at run at ≡ Some driver
+
+-- Each run that it stood for in the middle of what the session at an index does is made another of.
+abbrev pub MakesOf : Setup → ℕ → Running → Running → (ListRun → Driver → ListRun) → Type 0
+MakesOf s at old new makes =
+    (r : ListRun) (d : Driver) (pending : List ℕ) → driver_at r at ≡ Some d → RunsMid s at [] pending old r
+    → RunsMid s at [] pending new (makes r d)

@@ -1,0 +1,67 @@
+-- What a world keeps of its sessions of drivers, and which sessions of a run these are.
+use Rattle.std.specs.Prelude.{◌≡◌, ℕ, suc, ◌+◌, ◌-◌, ◌≤◌, ◌==◌, nat_eq, Bool, if◌then◌else◌, List, [], ◌∷◌, ◌++◌, length, map, Option, Some, None}
+use Rattle.std.specs.Prelude.{slice_get}
+use Rattle.std.specs.List.{list_any}
+use Rattle.ncc_pack.specs.declared.value.Value.{Value}
+use Rattle.ncc_wait.specs.declared.parked.Parked.{Parked}
+use Rattle.ncc_driver.specs.declared.action.Action.{Action}
+use Rattle.ncc_clients.specs.Members.{addresses}
+use Rattle.ncc_clients.specs.Links.{Driver, Driving, Linked}
+use Rattle.ncc_links.specs.Held.{Held, IsDriver}
+use Rattle.ncc_world.specs.declared.setup.Setup.{Setup}
+use Rattle.ncc_world.specs.declared.seen.WorkSeen.{WorkSeen}
+use Rattle.ncc_world.specs.Showing.{work_seen}
+
+pub record KeptDrivers : Type 0 where
+  pub list : List Held
+  -- the address of each member, member 1 first
+  pub names : List Value
+  -- the sessions that sleep
+  pub sleepers : List Parked
+  -- the numbers of the connections that sessions made
+  pub linked : List ℕ
+  pub works : List WorkSeen
+
+-- Of what the session at an index wants done these actions are left; the others have all done.
+abbrev pub left_of : ℕ → List Action → ℕ → List Action
+left_of at left index = if index == at then left else []
+
+-- a session that sleeps until a moment: it waits for a place that nobody reaches, up to the moment before
+abbrev pub sleeper : ℕ → ℕ → Parked
+sleeper number until = record { conn = number; need = if until == 0 then 0 else 1; deadline = until - 1 }
+
+-- those of these numbers are still to be woken, and are not among those that sleep
+abbrev pub sleeps_as : List ℕ → ℕ → Option ℕ → List Parked
+sleeps_as pending number None = []
+sleeps_as pending number (Some until) = if list_any (nat_eq number) pending then [] else sleeper number until ∷ []
+
+-- by ascending number, from this one on
+unfoldable pub sleepers_from : List ℕ → ℕ → List Driver → List Parked
+sleepers_from pending number [] = []
+sleepers_from pending number (d ∷ ds) = sleeps_as pending number d.wakes ++ sleepers_from pending (suc number) ds
+
+-- It stands for this session of the run, whose last work began by now.
+pub record IsOne (now : ℕ) (held : Held) (d : Driver) (left : List Action) : Type 0 where
+  pub stands : IsDriver held d left
+  pub began : held.session.core.began ≤ now
+
+pub record AreEach (now at : ℕ) (left : List Action) (list : List Held) (drivers : List Driver) : Type 0 where
+  pub count : length list ≡ length drivers
+  pub each : (index : ℕ) (held : Held) (d : Driver) → slice_get list index ≡ Some held → slice_get drivers index ≡ Some d
+      → IsOne now held d (left_of at left index)
+
+abbrev pub made_by_session : ℕ → Linked → Bool
+made_by_session conn l = l.conn == conn
+
+-- The sessions of a run, where the one at an index still has these actions to do, and those of these numbers are still to be woken.
+pub record AreAtWork (s : Setup) (at : ℕ) (left : List Action) (pending : List ℕ) (k : KeptDrivers) (now : ℕ) (driving : Driving) : Type 0
+    where
+  pub each : AreEach now at left k.list driving.drivers
+  pub names : k.names ≡ addresses (s.cores + s.replicas) 1
+  pub sleepers : k.sleepers ≡ sleepers_from pending 1 driving.drivers
+  pub linked : (conn : ℕ) → list_any (nat_eq conn) k.linked ≡ list_any (made_by_session conn) driving.linked
+  pub works : k.works ≡ map work_seen driving.ended
+
+-- All that they want done is done, and all are woken that are to be.
+abbrev pub AreDrivers : Setup → KeptDrivers → ℕ → Driving → Type 0
+AreDrivers s k now driving = AreAtWork s 0 [] [] k now driving
