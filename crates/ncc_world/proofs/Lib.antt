@@ -1,9 +1,13 @@
 pub mod Begun
 pub mod Listed
 pub mod Settling
+pub mod Silent
+pub mod Pumping
 pub mod Moments
 pub mod Happenings
 pub mod Worked
+pub mod Bounding
+pub mod Coursing
 pub mod Whole
 pub mod Kept_by
 pub mod Addresses

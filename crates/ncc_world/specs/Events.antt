@@ -31,8 +31,12 @@ MayBegin (Add key by) = (is_word key ≡ true) × (fits_i64 by ≡ true)
 MayBegin (job.Put key value) = (is_word key ≡ true) × (is_word value ≡ true)
 MayBegin (job.Get key) = is_word key ≡ true
 
--- what a world is asked for: keys and values are words, bookmarks are of its cluster, bytes are some, as many as a message may have, and
 -- where requests are counted that move, there are some
+abbrev pub CountsSome : Option ℕ → Type 0
+CountsSome None = Unit {0}
+CountsSome (Some requests) = 1 ≤ requests
+
+-- what a world is asked for: keys and values are words, bookmarks are of its cluster, and bytes are some, as many as a message may have
 abbrev pub MayHappen : ℕ → Event → Type 0
 MayHappen cluster (Time to) = Unit {0}
 MayHappen cluster (Put member key value bookmarks) =
@@ -46,6 +50,5 @@ MayHappen cluster (Session seed) = Unit {0}
 MayHappen cluster (Work session job) = MayBegin job
 MayHappen cluster (Up session count) = Unit {0}
 MayHappen cluster (Down session count) = Unit {0}
-MayHappen cluster (Pump session (Some requests)) = 1 ≤ requests
-MayHappen cluster (Pump session None) = Unit {0}
+MayHappen cluster (Pump session requests) = CountsSome requests
 MayHappen cluster (Cut session) = Unit {0}

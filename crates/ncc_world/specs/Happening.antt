@@ -23,6 +23,7 @@ use Rattle.ncc_world.specs.declared.event.Job.TheVariants.{Add}
 use Rattle.ncc_world.specs.declared.event.Job.TheVariants as job
 use Rattle.ncc_world.specs.declared.error.WorldError.{WorldError}
 use Rattle.ncc_world.specs.declared.error.WorldError.TheVariants.{NoMember, NoConn, NoSession, BackInTime, WrongRole, Busy}
+use Rattle.ncc_world.specs.Events.{CountsSome}
 use Rattle.ncc_world.specs.Setting.{Lists, cluster_of, lagging, nobody}
 use Rattle.ncc_world.specs.Requests.{client_bytes, put_request, get_request}
 
@@ -115,12 +116,13 @@ ComesAsBytes s line k limit r t (Lifts _ _ m _ some more settles rest) = ComesAs
 ComesAsBytes s line k limit r t (Falls _ _ _ none some rest) =
     AreBytes (down_at (cluster_of s) r (driver_at r k)) × ComesAsBytes s line k limit _ t rest
 
--- What an event does before its turns: its own step, or all that it moves. What comes down are bytes.
+-- What an event does before its turns: its own step, or all that it moves, where requests are counted some. What comes down are bytes.
 abbrev pub Steps : Setup → ℕ → Event → ListRun → ListRun → Type 0
 Steps s line (Down session count) r t =
     ComeAsBytes (cluster_of s) r (driver_at r (session - 1)) (take count) × (t ≡ own s line (Down session count) r)
 Steps s line (Pump session requests) r t =
-    (moves : Pumps (cluster_of s) line (session - 1) requests r t) × ComesAsBytes s line (session - 1) requests r t moves
+    CountsSome requests × (moves : Pumps (cluster_of s) line (session - 1) requests r t)
+    × ComesAsBytes s line (session - 1) requests r t moves
 Steps s line event r t = t ≡ own s line event r
 
 -- ---- what comes of it
@@ -140,8 +142,9 @@ RunsOn s (e ∷ es) r t = (m : ListRun) × Happens s e.0 e.1 r m × RunsOn s es 
 -- on the way of an event: behind its own step, and behind each turn; where it pumps also behind each move
 abbrev pub Passes : Setup → ℕ → Event → ListRun → ListRun → Type 0
 Passes s line (Pump session requests) r moment =
-    Pumping (cluster_of s) line (session - 1) requests r moment
-    ⊎ ((stepped : ListRun) × Pumps (cluster_of s) line (session - 1) requests r stepped × Turns (cluster_of s) line stepped moment)
+    CountsSome requests
+    × (Pumping (cluster_of s) line (session - 1) requests r moment
+    ⊎ ((stepped : ListRun) × Pumps (cluster_of s) line (session - 1) requests r stepped × Turns (cluster_of s) line stepped moment))
 Passes s line event r moment = Turns (cluster_of s) line (own s line event r) moment
 
 -- The moments of an event.

@@ -2,6 +2,7 @@
 #![tactic(auto)]
 
 mod answer;
+mod bytes;
 mod clients;
 mod config;
 mod drivers;
@@ -25,7 +26,8 @@ mod world;
 pub use error::{Which, WorldError};
 pub use event::{Bookmarks, Event, Job};
 pub use laws::{
-    every_run_keeps, list_keeps_four, requests_fit, worked_events, worked_members, worked_waits,
+    every_run_keeps, list_keeps_four, requests_fit, worked_events, worked_members, worked_sessions,
+    worked_waits,
 };
 pub use ncc_apply::{Shelf, Stamp};
 pub use ncc_clients::Told;

@@ -383,13 +383,7 @@ impl Running {
     }
 
     // The own step of an event.
-    fn step(
-        &mut self,
-        alloc: Global,
-        setup: &Setup,
-        line: u64,
-        event: &Event,
-    ) -> Result<(), Memory>
+    fn step(&mut self, alloc: Global, setup: &Setup, line: u64, event: &Event) -> Result<(), Memory>
         requires allowed { IsSetup setup.now }
         requires live { HasRun setup.now self.old }
         requires may_happen { MayHappen setup.now.cluster event.now }
