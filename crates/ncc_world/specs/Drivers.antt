@@ -1,14 +1,18 @@
 -- What a world keeps of its sessions of drivers, and which sessions of a run these are.
-use Rattle.std.specs.Prelude.{◌≡◌, ℕ, suc, ◌+◌, ◌-◌, ◌≤◌, ◌==◌, nat_eq, Bool, if◌then◌else◌, List, [], ◌∷◌, ◌++◌, length, map, Option, Some, None}
-use Rattle.std.specs.Prelude.{slice_get}
+use Rattle.std.specs.Prelude.{◌≡◌, ℕ, suc, ◌+◌, ◌-◌, ◌≤◌, ◌==◌, nat_eq, nat_le, Bool, false, ◌&&◌, if◌then◌else◌, List, [], ◌∷◌, ◌++◌, length, map, Option, Some, None}
+use Rattle.std.specs.Prelude.{slice_get, slice_set}
 use Rattle.std.specs.List.{list_any}
 use Rattle.ncc_pack.specs.declared.value.Value.{Value}
 use Rattle.ncc_wait.specs.declared.parked.Parked.{Parked}
 use Rattle.ncc_driver.specs.declared.action.Action.{Action}
+use Rattle.ncc_driver.specs.declared.config.SessionConfig.{SessionConfig}
 use Rattle.ncc_clients.specs.Members.{addresses}
+use Rattle.ncc_clients.specs.Drives.{is_busy, is_due, new_driver}
 use Rattle.ncc_clients.specs.Links.{Driver, Driving, Linked}
 use Rattle.ncc_links.specs.Held.{Held, IsDriver}
 use Rattle.ncc_world.specs.declared.setup.Setup.{Setup}
+use Rattle.ncc_world.specs.declared.error.WorldError.{WorldError}
+use Rattle.ncc_world.specs.declared.error.WorldError.TheVariants.{Busy, NoSession}
 use Rattle.ncc_world.specs.declared.seen.WorkSeen.{WorkSeen}
 use Rattle.ncc_world.specs.Showing.{work_seen}
 
@@ -65,3 +69,36 @@ pub record AreAtWork (s : Setup) (at : ℕ) (left : List Action) (pending : List
 -- All that they want done is done, and all are woken that are to be.
 abbrev pub AreDrivers : Setup → KeptDrivers → ℕ → Driving → Type 0
 AreDrivers s k now driving = AreAtWork s 0 [] [] k now driving
+
+-- ---- what the calls speak of
+
+abbrev pub has_session : ℕ → ℕ → Bool
+has_session count session = nat_le 1 session && nat_le session count
+
+abbrev pub is_busy_in : Option Driver → Bool
+is_busy_in None = false
+is_busy_in (Some d) = is_busy d
+
+-- why a session may not begin a work
+abbrev pub refuses_work : Driving → ℕ → Option WorldError
+refuses_work driving session =
+    if has_session (length driving.drivers) session
+    then (if is_busy_in (slice_get driving.drivers (session - 1)) then Some Busy else None)
+    else Some NoSession
+
+abbrev pub with_session : SessionConfig → Driving → Driving
+with_session config driving = record driving { drivers = driving.drivers ++ new_driver config ∷ [] }
+
+-- the session at an index has a link that is this connection
+abbrev pub joined_as : ℕ → ℕ → Driver → Driving → Driving
+joined_as index conn d driving = record {
+  drivers = slice_set driving.drivers index (record d { link = Some (record { conn = conn; up = []; down = 0 }) });
+  linked = driving.linked ++ (record { conn = conn; session = index; work = length d.works - 1 } ∷ []);
+  ended = driving.ended;
+}
+
+-- the numbers of those whose sleep ends by now, from this one on
+unfoldable pub due_from : ℕ → ℕ → List Driver → List ℕ
+due_from now number [] = []
+due_from now number (d ∷ ds) =
+    if is_due now d.wakes then number ∷ due_from now (suc number) ds else due_from now (suc number) ds

@@ -20,7 +20,8 @@ use Rattle.ncc_clients.specs.Members.{Proposed, elsewhere, full, placed}
 use Rattle.ncc_clients.specs.Run.{Client, Placing, Reply, waits, tells, proposes, with_bytes, with_fact, with_placing, deadline_of}
 use Rattle.ncc_clients.specs.Run.{question_of, last_rows}
 use Rattle.ncc_clients.specs.Links.{Driver}
-use Rattle.ncc_clients.specs.Drives.{driver_at}
+use Rattle.ncc_clients.specs.Drives.{Pumps, driver_at, with_driver}
+use Rattle.ncc_links.specs.Held.{own}
 use Rattle.ncc_driver.specs.declared.action.Action.{Action}
 use Rattle.ncc_tx.specs.declared.entry.Item.{Item}
 use Rattle.ncc_session.specs.Question.{Question, Row}
@@ -42,7 +43,7 @@ use Rattle.ncc_world.specs.declared.drivers.Drivers.{Drivers}
 use Rattle.ncc_world.specs.Setting.{Lists, cluster_of}
 use Rattle.ncc_world.specs.Earlier.{LeftBy, LeftFor}
 use Rattle.ncc_world.specs.Drivers.{KeptDrivers, AreAtWork, AreDrivers}
-use Rattle.ncc_world.specs.Happening.{ListRun}
+use Rattle.ncc_world.specs.Happening.{ListRun, ComesAsBytes}
 use Rattle.ncc_world.specs.World.{KeptMembers, KeptClients, KeptRun, AreMembers, AreServed, RunsAs, placing_of}
 
 abbrev pub members_in : Members → KeptMembers
@@ -255,3 +256,18 @@ abbrev pub MakesOf : Setup → ℕ → Running → Running → (ListRun → Driv
 MakesOf s at old new makes =
     (r : ListRun) (d : Driver) (pending : List ℕ) → driver_at r at ≡ Some d → RunsMid s at [] pending old r
     → RunsMid s at [] pending new (makes r d)
+
+-- All but who sleeps is as it was.
+pub record IsBesideRoom (old new : Drivers) : Type 0 where
+  pub list : new.list.items ≡ old.list.items
+  pub names : new.names ≡ old.names
+  pub linked : set_keys new.linked ≡ set_keys old.linked
+  pub works : new.works ≡ old.works
+
+-- the session at an index with what an action does at its own link done
+abbrev pub with_own : ListRun → ℕ → Driver → Action → ListRun
+with_own r at d action = with_driver r at (own d action)
+
+-- all bytes of the session's link moved, and what came down were bytes
+abbrev pub PumpsOn : Setup → ℕ → ℕ → Option ℕ → ListRun → ListRun → Type 0
+PumpsOn s line at limit r t = (moves : Pumps (cluster_of s) line at limit r t) × ComesAsBytes s line at limit r t moves

@@ -1,10 +1,23 @@
 //! The sessions of drivers of a world.
 
+ghost use Rattle.std.specs.Prelude.{◌≡◌, ◌+◌, ◌<◌, ◌≤◌, ℕ, ◌++◌, ◌∷◌, [], List, Some, length, nat_eq, slice_get, IfOk, OnOk};
+ghost use Rattle.std.specs.List.{list_any};
+ghost use Rattle.indexmap.specs.IndexSet.{keys};
+ghost use Rattle.ncc_wait.specs.Room.{put, without};
+ghost use Rattle.ncc_driver.specs.declared.action.Action.{Action as OneAction};
+ghost use Rattle.ncc_clients.specs.Links.{Driver as OneDriver, Driving, nobody_drives};
+ghost use Rattle.ncc_clients.specs.Drives.{named_from};
+ghost use Rattle.ncc_world.specs.Setting.{IsSetup};
+ghost use Rattle.ncc_world.specs.Happening.{config_of};
+ghost use Rattle.ncc_world.specs.Drivers.{AreAtWork, AreDrivers, due_from, has_session, joined_as, refuses_work, sleeper, with_session};
+ghost use Rattle.ncc_world.specs.Parts.{IsBesideRoom, drivers_in};
+ghost use Rattle.ncc_world.specs.declared.setup.Setup.{Setup as Setups};
+
 use crate::config::addresses;
 use crate::error::WorldError;
 use crate::seen::{WorkList, WorkSeen};
 use crate::setup::Setup;
-use indexmap::IndexMap;
+use indexmap::IndexSet;
 use ncc_driver::{Auth, SessionConfig, WorkDone, WorkError};
 use ncc_links::Driver;
 use ncc_pack::{Memory, Sequence, Text, Value, Values};
@@ -19,8 +32,8 @@ pub(crate) struct Drivers {
     names: Values,
     // The sessions that sleep, by number: each waits for what never comes, and is late from its moment on.
     sleepers: Room,
-    // The connections that sessions made, and which made them.
-    linked: IndexMap<u64, u64>,
+    // The numbers of the connections that sessions made.
+    linked: IndexSet<u64>,
     works: WorkList,
 }
 
@@ -36,23 +49,31 @@ fn is_named(value: &Value, address: &Text) -> bool {
 
 impl Drivers {
     /// No sessions.
-    pub(crate) fn new(alloc: Global, setup: &Setup) -> Result<Drivers, Memory> {
+    pub(crate) fn new(alloc: Global, setup: &Setup) -> Result<Drivers, Memory>
+        requires allowed { IsSetup setup.now }
+        ensures none { IfOk result (λ d. AreDrivers setup.now (drivers_in d) 0 nobody_drives) }
+    {
         Ok(Drivers {
             list: Vec::new(alloc),
             names: addresses(alloc, setup.cores + setup.replicas, 1)?,
             sleepers: Room::new(alloc)?,
-            linked: IndexMap::new(alloc),
+            linked: IndexSet::new(alloc),
             works: Sequence::new(alloc),
         })
     }
 
     /// Says whether there is a session of this number, from 1.
-    pub(crate) fn has(&self, session: u64) -> bool {
+    pub(crate) fn has(&self, session: u64) -> bool
+        ensures exact { result ≡ has_session (length self.now.list.items) session }
+    {
         1 <= session && session <= self.list.len() as u64
     }
 
     /// Why a session may not begin a work, if it may not.
-    pub(crate) fn refuses_work(&self, session: u64) -> Option<WorldError> {
+    pub(crate) fn refuses_work(&self, session: u64) -> Option<WorldError>
+        ensures exact { (s : Setups) (now : ℕ) (driving : Driving) → AreDrivers s (drivers_in self.now) now driving →
+            result ≡ refuses_work driving session }
+    {
         if !self.has(session) {
             return Some(WorldError::NoSession);
         }
@@ -63,12 +84,18 @@ impl Drivers {
     }
 
     /// Says whether a session made this connection.
-    pub(crate) fn is_linked(&self, conn: u64) -> bool {
-        self.linked.get(&conn).is_some()
+    pub(crate) fn is_linked(&self, conn: u64) -> bool
+        ensures exact { result ≡ list_any (nat_eq conn) (keys self.now.linked) }
+    {
+        self.linked.contains(&conn)
     }
 
     /// One session more.
-    pub(crate) fn make(&mut self, alloc: Global, setup: &Setup, seed: u64) -> Result<(), Memory> {
+    pub(crate) fn make(&mut self, alloc: Global, setup: &Setup, seed: u64) -> Result<(), Memory>
+        requires allowed { IsSetup setup.now }
+        ensures ok { OnOk result ((now : ℕ) (driving : Driving) → AreDrivers setup.now (drivers_in self.old) now driving →
+            AreDrivers setup.now (drivers_in self.new) now (with_session (config_of setup.now seed) driving)) }
+    {
         let config = SessionConfig {
             routers: addresses(alloc, setup.cores, 1)?,
             auth: Auth::Nobody,
@@ -80,7 +107,10 @@ impl Drivers {
     }
 
     /// The member that an address names.
-    pub(crate) fn named(&self, address: &Text) -> Option<u8> {
+    pub(crate) fn named(&self, address: &Text) -> Option<u8>
+        requires few { length self.now.names ≤ 254 }
+        ensures exact { result ≡ named_from 1 self.now.names address.now }
+    {
         for (index, name) in self.names.as_slice().iter().enumerate() {
             if is_named(name, address) {
                 return Some(index as u8 + 1);
@@ -90,14 +120,24 @@ impl Drivers {
     }
 
     /// The session at an index, from 0, has a link that is this connection.
-    pub(crate) fn join(&mut self, index: usize, conn: u64) -> Result<(), Memory> {
+    pub(crate) fn join(&mut self, index: usize, conn: u64) -> Result<(), Memory>
+        requires there { index < length self.old.list.items }
+        ensures ok { OnOk result ((s : Setups) (now : ℕ) (driving : Driving) (d : OneDriver) (left : List OneAction) (pending : List ℕ) →
+            slice_get driving.drivers index ≡ Some d → AreAtWork s index left pending (drivers_in self.old) now driving →
+            AreAtWork s index left pending (drivers_in self.new) now (joined_as index conn d driving)) }
+    {
         self.list[index].join(conn);
-        self.linked.insert(conn, index as u64 + 1)?;
+        self.linked.insert(conn)?;
         Ok(())
     }
 
     /// The session at an index, from 0, sleeps until a moment.
-    pub(crate) fn sleep(&mut self, index: usize, until: u64) -> Result<(), Memory> {
+    // It stands for a session that sleeps so already, and that the room does not know to.
+    pub(crate) fn sleep(&mut self, index: usize, until: u64) -> Result<(), Memory>
+        requires there { index < length self.old.list.items }
+        ensures room { OnOk result (self.new.sleepers ≡ put (sleeper (index + 1) until) (without (index + 1) self.old.sleepers)) }
+        ensures rest { OnOk result (IsBesideRoom self.old self.new) }
+    {
         let number = index as u64 + 1;
         self.sleepers.leave(number);
         if until == 0 {
@@ -107,11 +147,13 @@ impl Drivers {
         }
     }
 
-    /// The sessions whose sleep ends, by ascending number. They do not sleep any more.
-    pub(crate) fn due(&mut self, alloc: Global, now: u64) -> Result<Vec<u64>, Memory> {
+    /// The sessions whose sleep ends, by ascending number. They are to be woken, one after the other, and are not among those that sleep.
+    pub(crate) fn due(&mut self, alloc: Global, now: u64) -> Result<Vec<u64>, Memory>
+        ensures due { IfOk result (λ due. (s : Setups) (before : ℕ) (driving : Driving) → AreDrivers s (drivers_in self.old) before driving →
+            before ≤ now → (due.items ≡ due_from now 1 driving.drivers) × AreAtWork s 0 [] due.items (drivers_in self.new) now driving) }
+    {
         let mut due = Vec::new(alloc);
         while let Some((number, _)) = self.sleepers.due(0, now) {
-            self.list[number as usize - 1].wake();
             due.push(number)?;
         }
         Ok(due)
@@ -123,7 +165,9 @@ impl Drivers {
         line: u64,
         index: usize,
         ended: Result<WorkDone, WorkError>,
-    ) -> Result<(), Memory> {
+    ) -> Result<(), Memory>
+        ensures ok { OnOk result (self.new ≡ record self.old { works = self.old.works ++ (record { line = line; session = index + 1; result = ended } ∷ []) }) }
+    {
         self.works.push(WorkSeen {
             line,
             session: index as u64 + 1,
@@ -132,7 +176,9 @@ impl Drivers {
     }
 
     /// The works that have ended, the first first.
-    pub(crate) fn works(&self) -> &WorkList {
+    pub(crate) fn works(&self) -> &WorkList
+        ensures exact { result.now ≡ self.now.works }
+    {
         &self.works
     }
 }

@@ -1,5 +1,16 @@
 //! What becomes of sessions of drivers: what they want done is done at once, and the bytes of their links move where an event says so.
 
+ghost use Rattle.std.specs.Prelude.{◌≡◌, ◌+◌, ℕ, List, [], Some, false, drop, take, IfOk, OnOk};
+ghost use Rattle.ncc_driver.specs.declared.action.Action.{Action as OneAction};
+ghost use Rattle.ncc_clients.specs.Links.{Driver as OneDriver, lift_bytes};
+ghost use Rattle.ncc_clients.specs.Drives.{begins, cuts, does_all, does_by, down_at, driver_at, falls, joined, last_of, lifts, told_input, wakes_all};
+ghost use Rattle.ncc_clients.specs.Course.{ComeAsBytes};
+ghost use Rattle.ncc_links.specs.Held.{effect_of};
+ghost use Rattle.ncc_world.specs.Setting.{IsSetup, cluster_of};
+ghost use Rattle.ncc_world.specs.Events.{MayBegin};
+ghost use Rattle.ncc_world.specs.Happening.{ListRun, is_busy_at, meant};
+ghost use Rattle.ncc_world.specs.Parts.{HasAll, HasDone, HasMid, MakesOf, PumpsOn, RunsAll, RunsMid, with_own};
+
 use crate::event::Job;
 use crate::running::Running;
 use crate::setup::Setup;
@@ -8,6 +19,17 @@ use ncc_driver::Input;
 use ncc_links::Effect;
 use ncc_pack::{Bytes, Memory, Text};
 use std::alloc::Global;
+
+// What stands behind so many bytes.
+fn behind(bytes: &[u8], count: u64) -> &[u8]
+    ensures exact { result.now ≡ drop count bytes.now }
+{
+    if bytes.len() as u64 <= count {
+        &bytes[bytes.len()..]
+    } else {
+        &bytes[count as usize..]
+    }
+}
 
 impl Running {
     // A link to a member is opened, if an address names one. It answers what the session is told of it.
@@ -41,7 +63,14 @@ impl Running {
         line: u64,
         index: usize,
         effect: Effect,
-    ) -> Result<Option<Input>, Memory> {
+    ) -> Result<Option<Input>, Memory>
+        requires allowed { IsSetup setup.now }
+        requires live { HasMid setup.now index self.old }
+        ensures ok { IfOk result (λ told. (r : ListRun) (d : OneDriver) (action : OneAction) (behind : List OneAction) (pending : List ℕ) →
+            driver_at r index ≡ Some d → RunsMid setup.now index behind pending self.old (with_own r index d action) →
+            effect ≡ effect_of d action → (told ≡ joined (cluster_of setup.now) (Some action)) ×
+            RunsMid setup.now index behind pending self.new (does_by (cluster_of setup.now) line index r d action)) }
+    {
         match effect {
             Effect::Nothing => {}
             Effect::Joins { address } => {
@@ -61,7 +90,14 @@ impl Running {
         setup: &Setup,
         line: u64,
         index: usize,
-    ) -> Result<Option<Input>, Memory> {
+    ) -> Result<Option<Input>, Memory>
+        requires allowed { IsSetup setup.now }
+        requires live { HasMid setup.now index self.old }
+        ensures ok { IfOk result (λ told. (r : ListRun) (d : OneDriver) (left : List OneAction) (pending : List ℕ) →
+            driver_at r index ≡ Some d → RunsMid setup.now index left pending self.old r →
+            (told ≡ joined (cluster_of setup.now) (last_of left)) ×
+            RunsMid setup.now index [] pending self.new (does_all (cluster_of setup.now) line index left r)) }
+    {
         let mut told = None;
         while let Some(effect) = self.drivers.list[index].next()? {
             told = self.act(alloc, setup, line, index, effect)?;
@@ -77,7 +113,11 @@ impl Running {
         line: u64,
         index: usize,
         input: Input,
-    ) -> Result<(), Memory> {
+    ) -> Result<(), Memory>
+        requires allowed { IsSetup setup.now }
+        requires live { HasDone setup.now index self.old }
+        ensures ok { OnOk result (MakesOf setup.now index self.old self.new (λ r d. told_input (cluster_of setup.now) line index r d input)) }
+    {
         let now = self.clock;
         self.drivers.list[index].hear(input, now)?;
         let Some(input) = self.act_all(alloc, setup, line, index)? else {
@@ -96,7 +136,14 @@ impl Running {
         line: u64,
         index: usize,
         job: &Job,
-    ) -> Result<(), Memory> {
+    ) -> Result<(), Memory>
+        requires allowed { IsSetup setup.now }
+        requires may { MayBegin job.now }
+        requires live { HasDone setup.now index self.old }
+        requires rests { (r : ListRun) → RunsAll setup.now self.old r → is_busy_at r (index + 1) ≡ false }
+        ensures ok { OnOk result ((r : ListRun) → RunsAll setup.now self.old r →
+            RunsAll setup.now self.new (begins (cluster_of setup.now) line index r (meant job.now))) }
+    {
         let now = self.clock;
         let task = task(alloc, job)?;
         self.drivers.list[index].begin(task, now)?;
@@ -121,18 +168,31 @@ impl Running {
         setup: &Setup,
         index: usize,
         count: u64,
-    ) -> Result<(), Memory> {
+    ) -> Result<(), Memory>
+        requires live { HasDone setup.now index self.old }
+        ensures ok { OnOk result ((r : ListRun) → RunsAll setup.now self.old r →
+            RunsAll setup.now self.new (lifts (cluster_of setup.now) index r (driver_at r index) (lift_bytes count))) }
+    {
         let bytes = self.drivers.list[index].lift_bytes(count)?;
         self.rise(setup, index, bytes)
     }
 
     // What was written to the link of the session at an index and has not come down, at most so many bytes of it.
-    fn above(&self, alloc: Global, index: usize, count: u64) -> Result<Bytes, Memory> {
+    fn above(&self, alloc: Global, setup: &Setup, index: usize, count: u64) -> Result<Bytes, Memory>
+        requires live { HasDone setup.now index self.now }
+        ensures exact { IfOk result (λ bytes. (r : ListRun) → RunsAll setup.now self.now r →
+            bytes ≡ take count (down_at (cluster_of setup.now) r (driver_at r index))) }
+    {
+        let _setup = setup;
         let Some(link) = self.drivers.list[index].link() else {
             return Ok(Bytes::new(alloc));
         };
-        let shown = self.clients.shown(link.conn() as usize - 1);
-        let rest = &shown.out.as_slice()[link.down() as usize..];
+        let seen = self.clients.seen.as_slice();
+        let at = (link.conn() as usize).saturating_sub(1);
+        if seen.len() <= at {
+            return Ok(Bytes::new(alloc));
+        }
+        let rest = behind(seen[at].out.as_slice(), link.down());
         let len = count.min(rest.len() as u64);
         Bytes::from_slice(alloc, &rest[..len as usize])
     }
@@ -145,8 +205,14 @@ impl Running {
         line: u64,
         index: usize,
         count: u64,
-    ) -> Result<(), Memory> {
-        let bytes = self.above(alloc, index, count)?;
+    ) -> Result<(), Memory>
+        requires allowed { IsSetup setup.now }
+        requires live { HasDone setup.now index self.old }
+        ensures ok { OnOk result ((r : ListRun) → RunsAll setup.now self.old r →
+            ComeAsBytes (cluster_of setup.now) r (driver_at r index) (take count) ×
+            RunsAll setup.now self.new (falls (cluster_of setup.now) line index r (driver_at r index) (take count))) }
+    {
+        let bytes = self.above(alloc, setup, index, count)?;
         if bytes.is_empty() {
             return Ok(());
         }
@@ -161,7 +227,12 @@ impl Running {
         setup: &Setup,
         line: u64,
         index: usize,
-    ) -> Result<(), Memory> {
+    ) -> Result<(), Memory>
+        requires allowed { IsSetup setup.now }
+        requires live { HasDone setup.now index self.old }
+        ensures ok { OnOk result ((r : ListRun) → RunsAll setup.now self.old r →
+            RunsAll setup.now self.new (cuts (cluster_of setup.now) line index r (driver_at r index))) }
+    {
         let Some(conn) = self.drivers.list[index].cut() else {
             return Ok(());
         };
@@ -175,10 +246,16 @@ impl Running {
         alloc: Global,
         setup: &Setup,
         line: u64,
-    ) -> Result<(), Memory> {
+    ) -> Result<(), Memory>
+        requires allowed { IsSetup setup.now }
+        requires live { HasAll setup.now self.old }
+        ensures ok { OnOk result ((r : ListRun) → RunsAll setup.now self.old r →
+            RunsAll setup.now self.new (wakes_all (cluster_of setup.now) line r)) }
+    {
         let now = self.clock;
         let due = self.drivers.due(alloc, now)?;
         for number in due.iter() {
+            self.drivers.list[*number as usize - 1].wake();
             self.hear(alloc, setup, line, *number as usize - 1, Input::Woken)?;
         }
         Ok(())
@@ -222,7 +299,7 @@ impl Running {
         if let Some(waiting) = self.drivers.list[index].waiting() {
             return self.pump_up(alloc, setup, line, index, waiting, limit);
         }
-        let bytes = self.above(alloc, index, u64::MAX)?;
+        let bytes = self.above(alloc, setup, index, u64::MAX)?;
         if bytes.is_empty() {
             return Ok(None);
         }
@@ -239,7 +316,12 @@ impl Running {
         line: u64,
         index: usize,
         requests: Option<u64>,
-    ) -> Result<(), Memory> {
+    ) -> Result<(), Memory>
+        requires allowed { IsSetup setup.now }
+        requires live { HasDone setup.now index self.old }
+        ensures ok { OnOk result ((r : ListRun) → RunsAll setup.now self.old r →
+            (t : ListRun) × PumpsOn setup.now line index requests r t × RunsAll setup.now self.new t) }
+    {
         let mut limit = requests;
         while let Some(next) = self.pump_once(alloc, setup, line, index, limit)? {
             limit = next;
