@@ -59,12 +59,12 @@ made_by_session conn l = l.conn == conn
 
 -- The sessions of a run, where the one at an index still has these actions to do, and those of these numbers are still to be woken.
 pub record AreAtWork (s : Setup) (at : ℕ) (left : List Action) (pending : List ℕ) (k : KeptDrivers) (now : ℕ) (driving : Driving) : Type 0
-    where
-  pub each : AreEach now at left k.list driving.drivers
-  pub names : k.names ≡ addresses (s.cores + s.replicas) 1
-  pub sleepers : k.sleepers ≡ sleepers_from pending 1 driving.drivers
-  pub linked : (conn : ℕ) → list_any (nat_eq conn) k.linked ≡ list_any (made_by_session conn) driving.linked
-  pub works : k.works ≡ map work_seen driving.ended
+  where
+    pub each : AreEach now at left k.list driving.drivers
+    pub names : k.names ≡ addresses (s.cores + s.replicas) 1
+    pub sleepers : k.sleepers ≡ sleepers_from pending 1 driving.drivers
+    pub linked : (conn : ℕ) → list_any (nat_eq conn) k.linked ≡ list_any (made_by_session conn) driving.linked
+    pub works : k.works ≡ map work_seen driving.ended
 
 -- All that they want done is done, and all are woken that are to be.
 abbrev pub AreDrivers : Setup → KeptDrivers → ℕ → Driving → Type 0

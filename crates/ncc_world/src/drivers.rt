@@ -166,6 +166,7 @@ impl Drivers {
         index: usize,
         ended: Result<WorkDone, WorkError>,
     ) -> Result<(), Memory>
+        requires there { index < length self.old.list.items }
         ensures ok { OnOk result (self.new ≡ record self.old { works = self.old.works ++ (record { line = line; session = index + 1; result = ended } ∷ []) }) }
     {
         self.works.push(WorkSeen {

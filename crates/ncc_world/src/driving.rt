@@ -241,12 +241,7 @@ impl Running {
     }
 
     // Those whose sleep ends are woken, the lowest number first.
-    pub(crate) fn wake_all(
-        &mut self,
-        alloc: Global,
-        setup: &Setup,
-        line: u64,
-    ) -> Result<(), Memory>
+    pub(crate) fn wake_all(&mut self, alloc: Global, setup: &Setup, line: u64) -> Result<(), Memory>
         requires allowed { IsSetup setup.now }
         requires live { HasAll setup.now self.old }
         ensures ok { OnOk result ((r : ListRun) → RunsAll setup.now self.old r →

@@ -10,7 +10,7 @@ ghost use Rattle.ncc_world.specs.Setting.{IsSetup, list_at};
 ghost use Rattle.ncc_world.specs.Events.{MayHappen};
 ghost use Rattle.ncc_world.specs.Spellable.{AllAllowed, AllFit};
 ghost use Rattle.ncc_world.specs.Happening.{ListRun, Happens, start_of, refusal, is_member};
-ghost use Rattle.ncc_world.specs.Showing.{members_of, conns_of};
+ghost use Rattle.ncc_world.specs.Showing.{members_of, conns_of, works_of};
 ghost use Rattle.ncc_world.specs.World.{Stands, past, spent, is_refusal};
 
 use crate::error::{Which, WorldError};
@@ -145,7 +145,9 @@ impl World {
     }
 
     /// The works that have ended, the first first. It takes no memory.
-    pub fn works(&self) -> &WorkList {
+    pub fn works(&self) -> &WorkList
+        ensures works { (r : ListRun) → Stands self.now r → result.now ≡ works_of r }
+    {
         self.run.drivers.works()
     }
 
