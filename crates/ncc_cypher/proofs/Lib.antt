@@ -4,6 +4,7 @@ pub mod Small
 pub mod Runs
 pub mod Tokens_read
 pub mod Keys
+pub mod Slots
 pub mod Lists
 pub mod Shown
 pub mod Head_shows

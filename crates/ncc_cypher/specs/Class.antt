@@ -13,7 +13,8 @@ class b =
     else (if within 49 57 b then Digit
     else (if b == 45 then Minus
     else (if b == 39 || b == 34 then Quote
-    else (if b == 40 || b == 41 || b == 123 || b == 125 || b == 58 || b == 44 || b == 46 || b == 61 || b == 43 || b == 36 || b == 59 then Sign
+    else (if b == 40 || b == 41 || b == 123 || b == 125 || b == 58 || b == 44 || b == 46 || b == 61 || b == 43 || b == 36 || b == 59
+    then Sign
     else (if b == 32 || b == 9 || b == 13 || b == 10 then Blank
     else Other))))))
 

@@ -10,6 +10,7 @@ pub mod Grammar
 pub mod Verb
 pub mod Opening
 pub mod Place
+pub mod Slots
 pub mod State
 pub mod Machine
 pub mod Columns

@@ -1,5 +1,6 @@
 -- What the functions of the parser do: each goes on from what is ahead of the reader.
-use Rattle.std.specs.Prelude.{◌≡◌, ◌<◌, ◌≤◌, ℕ, ◌+◌, Bool, true, false, List, [], ◌∷◌, length, map, Option, Some, None, Result, Ok, Err, ◌&&◌, is_some}
+use Rattle.std.specs.Prelude.{◌≡◌, ◌<◌, ◌≤◌, ℕ, ◌+◌, Bool, true, false, ◌&&◌, List, [], ◌∷◌, length, map}
+use Rattle.std.specs.Prelude.{Option, Some, None, is_some, Result, Ok, Err}
 use Rattle.ncc_pack.specs.declared.value.Value.{Value}
 use Rattle.ncc_pack.specs.declared.value.Value.TheVariants as v
 use Rattle.ncc_cypher.specs.declared.token.Token.{Token}
@@ -117,17 +118,20 @@ unfoldable pub further_columns : Option (List ℕ) → Name → Bool → List Pl
 further_columns start name aliased [] = name ∷ []
 further_columns start name aliased (x ∷ xs) =
     at_part (name ∷ further_columns None [] false xs) (name ∷ [])
-    (further_columns (Some (first_or start x.from)) (name_by aliased x.what (between (first_or start x.from) x.to)) (is_as x.what) xs) x.what
+    (further_columns (Some (first_or start x.from))
+    (name_by aliased x.what (between (first_or start x.from) x.to)) (is_as x.what) xs) x.what
 
 -- the tokens between belong to the item
 abbrev pub Inside : Option (List ℕ) → Name → Reader → Reader → Type 0
 Inside start name old new =
-    further_columns start name false (left old) ≡ further_columns (Some (first_or start old.from)) (between (first_or start old.from) new.behind) false (left new)
+    further_columns start name false (left old)
+    ≡ further_columns (Some (first_or start old.from)) (between (first_or start old.from) new.behind) false (left new)
 
 -- the same, behind its first token
 abbrev pub Within : List ℕ → Reader → Reader → Type 0
 Within start old new =
-    further_columns (Some start) (between start old.behind) false (left old) ≡ further_columns (Some start) (between start new.behind) false (left new)
+    further_columns (Some start) (between start old.behind) false (left old)
+    ≡ further_columns (Some start) (between start new.behind) false (left new)
 
 -- ---- what stands next
 

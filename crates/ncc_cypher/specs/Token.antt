@@ -5,7 +5,10 @@ use Rattle.std.specs.Str.{str_eq_ignore_ascii_case}
 use Rattle.ncc_cypher.specs.declared.class.Class.{Class}
 use Rattle.ncc_cypher.specs.declared.class.Class.TheVariants.{Blank}
 use Rattle.ncc_cypher.specs.declared.token.Token.{Token}
-use Rattle.ncc_cypher.specs.declared.token.Token.TheVariants.{Create, Match, Merge, Set, Delete, Return, As, True, False, Null, Int, Text, Name, Open, Close, LeftBrace, RightBrace, Colon, Comma, Dot, Equals, Plus, Dollar, Semicolon}
+use Rattle.ncc_cypher.specs.declared.token.Token.TheVariants.{Create, Match, Merge, Set, Delete, Return, As}
+use Rattle.ncc_cypher.specs.declared.token.Token.TheVariants.{True, False, Null, Int, Text, Name}
+use Rattle.ncc_cypher.specs.declared.token.Token.TheVariants.{Open, Close, LeftBrace, RightBrace}
+use Rattle.ncc_cypher.specs.declared.token.Token.TheVariants.{Colon, Comma, Dot, Equals, Plus, Dollar, Semicolon}
 use Rattle.ncc_cypher.specs.Class.{class}
 use Rattle.ncc_cypher.specs.Lexeme.{Lexeme, word, number, text, sign, Longest}
 use Rattle.ncc_cypher.specs.Number.{number_of}

@@ -18,6 +18,7 @@ pub(crate) enum Class {
 
 /// The class of a byte.
 #[tactic(auto, unfolding(crate::specs::Class::class))]
+#[inline(always)]
 pub(crate) fn class_of(byte: u8) -> Class
     ensures { result ≡ class byte }
 {

@@ -67,7 +67,8 @@ impl<'a> Reader<'a> {
         ensures moves { (names : List Name) (a : Name) (n : Option Name)
             → Moves names (s.Further (a_node (o.Create a) n) []) (λ ps. s.Closing (a_made (h.Create a ps) n)) self.old self.new result }
     {
-        let mut draft = Draft::new(self.alloc);
+        // A pair takes four bytes or more, so there are as many places as pairs, and mostly some times as many.
+        let mut draft = Draft::with_places(self.alloc, self.from.as_str().len() / 4)?;
         loop {
             let pair = self.pair(&draft)?;
             draft = draft.with(self.alloc, pair)?;

@@ -12,7 +12,8 @@ ghost use Rattle.ncc_cypher.specs.Place as p;
 ghost use Rattle.ncc_cypher.specs.State.{State};
 ghost use Rattle.ncc_cypher.specs.State as s;
 ghost use Rattle.ncc_cypher.specs.Machine.{a_statement, a_body, accepts, ends};
-ghost use Rattle.ncc_cypher.specs.Reading.{Moves, Ends, reads, left, further_columns, column_values, Fewer, NotMore, Whole, behind_item, NoMore, NoComma, Over, count_or, starts_count};
+ghost use Rattle.ncc_cypher.specs.Reading.{Moves, Ends, reads, left, further_columns, column_values, behind_item, count_or, starts_count};
+ghost use Rattle.ncc_cypher.specs.Reading.{Fewer, NotMore, Whole, NoMore, NoComma, Over};
 ghost use Rattle.ncc_cypher.specs.declared.tree.Change.TheVariants as c;
 
 use crate::error::Fault;
@@ -69,7 +70,8 @@ impl<'a> Reader<'a> {
     fn alias(&mut self) -> Result<Text, Fault>
         ensures fewer { OnOk result (Fewer self.old self.new) }
         ensures column { (start name : List ℕ)
-            → IfOk result (λ n. further_columns (Some start) name true (left self.old) ≡ further_columns (Some start) n false (left self.new)) }
+            → IfOk result (λ n. further_columns (Some start) name true (left self.old)
+            ≡ further_columns (Some start) n false (left self.new)) }
         ensures item { (names : List Name) (b : Body) (xs : List Item) (x : Item)
             → Moves names (s.Aliasing b xs x) (λ _. s.Aliased b (xs ++ x ∷ [])) self.old self.new result }
         ensures count { (names : List Name) (b : Body) → Moves names (s.CountAliasing b) (λ _. s.CountAliased b) self.old self.new result }
@@ -178,7 +180,8 @@ impl<'a> Reader<'a> {
         bound: &Option<Text>,
         first: (Item, Text),
     ) -> Result<(Items, Values), Fault>
-        ensures columns { (start : List ℕ) → IfOk result (λ r. r.1 ≡ column_values (further_columns (Some start) first.1 false (left self.old))) }
+        ensures columns { (start : List ℕ)
+            → IfOk result (λ r. r.1 ≡ column_values (further_columns (Some start) first.1 false (left self.old))) }
         ensures ends { (names : List Name) (b : Body) → b.made.name ≡ bound.now
             → Ends names (λ r. a_statement b (l.Items r.0)) result (reads names (s.Aliased b (first.0 ∷ [])) self.old) }
     {
@@ -211,7 +214,8 @@ impl<'a> Reader<'a> {
 
     /// The end behind the last column.
     fn column_end(&mut self, column: Text) -> Result<Values, Fault>
-        ensures columns { (start : List ℕ) → IfOk result (λ r. r ≡ column_values (further_columns (Some start) column false (left self.old))) }
+        ensures columns { (start : List ℕ)
+            → IfOk result (λ r. r ≡ column_values (further_columns (Some start) column false (left self.old))) }
         ensures ends { (names : List Name) (x : State) (y : Statement) → ends x ≡ Some y → NoMore x self.old.token
             → Ends names (λ _. y) result (reads names x self.old) }
     {
@@ -225,7 +229,8 @@ impl<'a> Reader<'a> {
     fn count_column(&mut self, start: &str) -> Result<Values, Fault>
         ensures columns { IfOk result (λ r. r
             ≡ column_values (further_columns (Some start.now) (between start.now self.old.behind) false (left self.old))) }
-        ensures ends { (names : List Name) (b : Body) → Ends names (λ _. a_statement b l.Count) result (reads names (s.Counted b) self.old) }
+        ensures ends { (names : List Name) (b : Body)
+            → Ends names (λ _. a_statement b l.Count) result (reads names (s.Counted b) self.old) }
     {
         match &self.token {
             Some(Token::As) => {

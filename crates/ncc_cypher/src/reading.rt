@@ -14,7 +14,8 @@ ghost use Rattle.ncc_cypher.specs.Place.{Made};
 ghost use Rattle.ncc_cypher.specs.Place as p;
 ghost use Rattle.ncc_cypher.specs.State as s;
 ghost use Rattle.ncc_cypher.specs.Machine.{a_made, is_find};
-ghost use Rattle.ncc_cypher.specs.Reading.{Moves, Ends, Gives, reads, left, column_values, Fewer, Same, NoPlus, NoComma, NoReturn, NoRest, full};
+ghost use Rattle.ncc_cypher.specs.Reading.{Moves, Ends, Gives, reads, left, column_values, full};
+ghost use Rattle.ncc_cypher.specs.Reading.{Fewer, Same, NoPlus, NoComma, NoReturn, NoRest};
 ghost use Rattle.ncc_cypher.specs.Spelled.{Spelled, Stopped, IsOrMemory};
 ghost use Rattle.ncc_cypher.specs.Columns.{columns, Within};
 ghost use Rattle.ncc_cypher.specs.Parsed.{parsed, IsAnswer};
@@ -116,7 +117,8 @@ impl<'a> Reader<'a> {
         requires last { NoReturn self.old.token }
         ensures columns { OnOk result (columns (left self.old) ≡ []) }
         ensures ends { (names : List Name) (a : Made) (ps : List Pair) (x : Pair)
-            → Ends names (λ _. full a.head a.name (c.Set (ps ++ x ∷ [])) l.Nothing) result (reads names (s.After (p.InSet a ps x.key) x.value.terms) self.old) }
+            → Ends names (λ _. full a.head a.name (c.Set (ps ++ x ∷ [])) l.Nothing) result
+            (reads names (s.After (p.InSet a ps x.key) x.value.terms) self.old) }
     {
         self.end()
     }
@@ -305,7 +307,8 @@ fn read(alloc: Global, source: &str) -> Result<Statement, ParseError>
 /// The statement that a source spells: the grammar of `docs/CYPHER.md` over its longest tokens, with the names of its
 /// columns. `Syntax` comes exactly where no statement is spelled. Its `at` is the byte of the first token that no
 /// spelling continues, or the source's length where the end does not continue one. Its kind is `BadToken` exactly where
-/// the bytes there begin no token. It takes linear time, but for the keys of one CREATE, which are held in order.
+/// the bytes there begin no token. It takes linear time, but for keys of one CREATE whose hash has the place of an earlier one's:
+/// these are held in order.
 pub fn parse(alloc: Global, source: &str) -> Result<Statement, ParseError>
     // What is read is spelled so.
     ensures found { IfOk result (λ s. Spelled s source.now) }

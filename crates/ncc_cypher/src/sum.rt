@@ -122,7 +122,8 @@ impl<'a> Reader<'a> {
         ensures moves { (names : List Name) (w : Place) → scope w ≡ bound.now
             → Moves names (s.After w (first ∷ [])) (λ e. s.After w e.terms) self.old self.new result }
     {
-        let mut terms = Sequence::new(self.alloc);
+        // Most sums are one term.
+        let mut terms = Sequence::with_capacity(self.alloc, 1)?;
         terms.push(first)?;
         while let Some(Token::Plus) = &self.token {
             self.advance();
