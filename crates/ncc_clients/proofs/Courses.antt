@@ -1,6 +1,6 @@
 -- A run with sessions is a path of small things.
 use Rattle.std.proofs.Common.{◌≡◌, ℕ, ◌-◌, Bool, true, false, List, [], ◌∷◌, length, Option, Some, None, refl}
-use Rattle.std.specs.Prelude.{slice_get, nat_le, if◌then◌else◌}
+use Rattle.std.specs.Prelude.{slice_get, if◌then◌else◌}
 use Rattle.ncc_driver.specs.declared.action.Action.{Action}
 use Rattle.ncc_driver.specs.declared.action.Action.TheVariants.{Connect, Send, Close, Sleep, Receive, Finish}
 use Rattle.ncc_driver.specs.declared.action.Input.{Input}
@@ -15,7 +15,8 @@ use Rattle.ncc_clients.specs.Drives.{driver_at, with_driver, feeds, feeds_one, c
 use Rattle.ncc_clients.specs.Drives.{parts, ends}
 use Rattle.ncc_clients.specs.Drives.{does_by, does, does_all, more, knows, does_more, joined, last_of, follows_on, turns_to, told_input}
 use Rattle.ncc_clients.specs.Drives.{with_input}
-use Rattle.ncc_clients.specs.Drives.{makes, begins_by, goes_up, lifts_by, lifts, comes_down, waits_above, falls_by, falls, cuts_by, cuts}
+use Rattle.ncc_clients.specs.Drives.{makes, begins_by, feeds_some, goes_up, lifts_by, lifts, comes_down, waits_above}
+use Rattle.ncc_clients.specs.Drives.{falls_by, falls, cuts_by, cuts}
 use Rattle.ncc_clients.specs.Course.{Deed, Plain, Makes, Begins, Lifts, Falls, Cuts, Wakes, Course}
 use Rattle.ncc_clients.specs.Course.{Here as Nothing, Then as And}
 use Rattle.ncc_clients.proofs.Paths.{path_one, path_join}
@@ -126,15 +127,14 @@ module _ {S : Type 0} (C : Cluster S) where
           let s = closes r (link.conn - 1) in
           path_join C r s (cuts_by C line k r d (Some link)) (closes_path r (link.conn - 1)) (told_path s _ _ i.Lost)
 
-  goes_path : (k : ℕ) (r : Run S) (d : Driver) (link : Link) (l : Lifted) → Path C r (goes_up C k r d link l)
-  goes_path k r d link l = go (nat_le 1 (length l.moved)) where
-    e : Driver
-    e = record d { link = Some (record link { up = l.left }) }
+  some_path : (r : Run S) (i : ℕ) (piece : List ℕ) → Path C r (feeds_some C r i piece)
+  some_path r i [] = Here r
+  some_path r i (b ∷ bs) = feeds_path r i (b ∷ bs)
 
-    go : (b : Bool) → Path C r (if b then feeds C (with_driver r k e) (link.conn - 1) l.moved else r)
-    go true = path_join C r (with_driver r k e) (feeds C (with_driver r k e) (link.conn - 1) l.moved) (driver_path r k e)
-        (feeds_path (with_driver r k e) (link.conn - 1) l.moved)
-    go false = Here r
+  goes_path : (k : ℕ) (r : Run S) (d : Driver) (link : Link) (l : Lifted) → Path C r (goes_up C k r d link l)
+  goes_path k r d link l =
+      let e : Driver = record d { link = Some (record link { up = l.left }) } in
+      path_join C r (with_driver r k e) (goes_up C k r d link l) (driver_path r k e) (some_path (with_driver r k e) (link.conn - 1) l.moved)
 
   lifts_from : (k : ℕ) (r : Run S) (lift : List Parcel → Lifted) (o : Option Driver) → Path C r (lifts C k r o lift)
   lifts_from k r lift None = Here r

@@ -49,3 +49,10 @@ pub mod Reading
 pub mod Drivers
 pub mod Splitting
 pub mod Waking
+pub mod Parcels
+pub mod Holding
+pub mod Began
+pub mod Counted
+pub mod Lowering
+pub mod Falling
+pub mod Descending

@@ -1,7 +1,7 @@
 -- Bytes of a session's link go up, or a small thing happens that sends nothing on a link: what is kept of sessions is kept.
 use Rattle.std.proofs.Common.{◌≡◌, ◌≢◌, ◌⊎◌, inl, inr, ℕ, ◌-◌, Bool, true, false, List, [], ◌++◌, length, Option}
 use Rattle.std.proofs.Common.{Some, None, refl, sym, ap, subst, ◌∙◌, append_assoc, append-nil}
-use Rattle.std.specs.Prelude.{slice_get, slice_set, nat_eq, nat_le, if◌then◌else◌}
+use Rattle.std.specs.Prelude.{slice_get, slice_set, nat_eq, ◌∷◌}
 use Rattle.ncc_pack.specs.declared.value.Value.{Value}
 use Rattle.ncc_driver.specs.declared.standing.Stage.{Stage}
 use Rattle.ncc_driver.specs.declared.standing.Stage.TheVariants as stage
@@ -13,7 +13,7 @@ use Rattle.ncc_clients.specs.Links.{Link, Driver, Lifted, Parcel, bytes_in}
 use Rattle.ncc_clients.specs.Run.{Run, Client, begun, talk_of, out_of, with_bytes}
 use Rattle.ncc_clients.specs.Moment.{Drives, Path}
 use Rattle.ncc_clients.specs.Four.{Four}
-use Rattle.ncc_clients.specs.Drives.{driver_at, with_driver, feeds, feeds_one, goes_up, lifts_by, lifts}
+use Rattle.ncc_clients.specs.Drives.{driver_at, with_driver, feeds, feeds_one, feeds_some, goes_up, lifts_by, lifts}
 use Rattle.ncc_clients.specs.Course.{Splits}
 use Rattle.ncc_driver.specs.LawsLegs.{DoneIn, presented_behind, sent_since}
 use Rattle.ncc_clients.proofs.Driven.{DriverSays}
@@ -72,6 +72,21 @@ module _ {S : Type 0} (C : Cluster S) (start : S) (known : Known) (four : Four C
       ap (feeds_one C r i piece) there ∙ (rw e refl),
     )
 
+  -- Where nothing moves, the connection is as it was.
+  some_is : (r : Run S) (i : ℕ) (c : Client) (piece : List ℕ) → Path C (begun start) r → slice_get r.clients i ≡ Some c
+      → (d : Client) × Took c piece d × ((more : List ℕ) × (out_of C d ≡ out_of C c ++ more)) × (feeds_some C r i piece ≡ changed r i d)
+  some_is r i c (b ∷ bs) from there = feeding_is r i c (b ∷ bs) from there
+  some_is r i c [] from there = (
+    c,
+    record { facts = refl; live = λ f. f; bytes = as_it_was c.closed refl },
+    ([], sym (append-nil (out_of C c))),
+    ap (λ (cs : List Client). record r { clients = cs }) (sym (set_back r.clients i c there)),
+  ) where
+    as_it_was : (b : Bool) → c.closed ≡ b
+        → ((c.closed ≡ true) × (c.bytes ≡ c.bytes)) ⊎ ((c.closed ≡ false) × (c.bytes ≡ c.bytes ++ []))
+    as_it_was true e = inl (e, refl)
+    as_it_was false e = inr (e, sym (append-nil c.bytes))
+
   -- ---- bytes go up
 
   module _ (k : ℕ) (r : Run S) (from : Path C (begun start) r) (kept : Kept C r) (d : Driver) (here : driver_at r k ≡ Some d) (link : Link)
@@ -94,8 +109,8 @@ module _ {S : Type 0} (C : Cluster S) (start : S) (known : Known) (four : Four C
         (sent_since [] w.did) o) is w.at.link
 
     fed_is : (x : Client) × Took old.c l.moved x × ((more : List ℕ) × (out_of C x ≡ out_of C old.c ++ more))
-        × (feeds C before_it (link.conn - 1) l.moved ≡ changed before_it (link.conn - 1) x)
-    fed_is = feeding_is before_it (link.conn - 1) old.c l.moved (path_more C (begun start) r before_it from
+        × (feeds_some C before_it (link.conn - 1) l.moved ≡ changed before_it (link.conn - 1) x)
+    fed_is = some_is before_it (link.conn - 1) old.c l.moved (path_more C (begun start) r before_it from
         (Drives r before_it.driving)) old.there
 
     new_says : Speaks C bookmarks fed_is.0
@@ -149,7 +164,7 @@ module _ {S : Type 0} (C : Cluster S) (start : S) (known : Known) (four : Four C
     rests_lifted (stage.Awaits awaited) h = tt
     rests_lifted _ h = absurd h
 
-    pub lifted_kept : Kept C (feeds C before_it (link.conn - 1) l.moved)
+    pub lifted_kept : Kept C (goes_up C k r d link l)
     lifted_kept = subst (λ (s : Run S). Kept C s) (sym fed_is.3)
         (kept_beside C says (changed before_it (link.conn - 1) fed_is.0) k with_link
         (beside_changed C before_it k
@@ -164,18 +179,11 @@ module _ {S : Type 0} (C : Cluster S) (start : S) (known : Known) (four : Four C
           rest = rests_lifted (stage_of d) (subst (λ (o : Option Link). IsAtRest (stage_of d) o) is w.rest);
         })))
 
-  kept_if : (b : Bool) (x y : Run S) → Kept C x → Kept C y → Kept C (if b then x else y)
-  kept_if true x y h k = h
-  kept_if false x y h k = k
-
   lifts_open : (k : ℕ) (r : Run S) (d : Driver) (link : Link) (l : Lifted) → Path C (begun start) r → Kept C r → driver_at r k ≡ Some d
       → d.link ≡ Some link → Rests C r.clients r.driving.linked r.driving.ended k d → l.moved ++ bytes_in l.left ≡ bytes_in link.up
       → Kept C (goes_up C k r d link l)
   lifts_open k r d link l from h here is (inl idle) split = absurd (none_or link (sym idle.link ∙ is))
-  lifts_open k r d link l from h here is (inr w) split =
-      kept_if (nat_le 1 (length l.moved)) (feeds C (with_driver r k (record d { link = Some (record link { up = l.left }) }))
-      (link.conn - 1) l.moved)
-      r (lifted_kept k r from h d here link is w l split) h
+  lifts_open k r d link l from h here is (inr w) split = lifted_kept k r from h d here link is w l split
 
   lifts_linked : (k : ℕ) (r : Run S) (d : Driver) (lift : List Parcel → Lifted) → Path C (begun start) r → Kept C r → driver_at r k ≡ Some d
       → Splits lift → (o : Option Link) → d.link ≡ o → Kept C (lifts_by C k r d o lift)

@@ -160,12 +160,15 @@ begins_by C line k r (Some d) job =
 abbrev pub begins : {S : Type 0} → Cluster S → ℕ → ℕ → Run S → Job → Run S
 begins C line k r job = begins_by C line k r (driver_at r k) job
 
--- what moves goes up
+-- bytes come in, where there are some
+abbrev pub feeds_some : {S : Type 0} → Cluster S → Run S → ℕ → List ℕ → Run S
+feeds_some C r i [] = r
+feeds_some C r i (b ∷ bs) = feeds C r i (b ∷ bs)
+
+-- what moves goes up, and the rest stays
 abbrev pub goes_up : {S : Type 0} → Cluster S → ℕ → Run S → Driver → Link → Lifted → Run S
 goes_up C k r d link l =
-    if nat_le 1 (length l.moved)
-    then feeds C (with_driver r k (record d { link = Some (record link { up = l.left }) })) (link.conn - 1) l.moved
-    else r
+    feeds_some C (with_driver r k (record d { link = Some (record link { up = l.left }) })) (link.conn - 1) l.moved
 
 abbrev pub lifts_by : {S : Type 0} → Cluster S → ℕ → Run S → Driver → Option Link → (List Parcel → Lifted) → Run S
 lifts_by C k r d None lift = r

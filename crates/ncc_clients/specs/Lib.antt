@@ -11,3 +11,5 @@ pub mod Drives
 pub mod Reads
 pub mod Course
 pub mod Worked
+pub mod Task
+pub mod Held
