@@ -1,7 +1,11 @@
 pub mod Words
 pub mod Digits
+pub mod Numbers
 pub mod Lines
+pub mod SessionLines
 pub mod Scripts
+pub mod DriverRows
+pub mod WorksFit
 pub mod OneEnd
 pub mod Ends
 pub mod Spelling

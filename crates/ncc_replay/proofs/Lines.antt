@@ -1,5 +1,5 @@
 -- What the words of a line say, and that they say one event at most.
-use Rattle.std.proofs.Common.{◌≡◌, ◌≢◌, ℕ, ◌+◌, ◌<◌, ◌≤◌, ◌^◌, true, false, cond, ◌==◌, not, ◌&&◌, nat_le, nat_lt, List, [], ◌∷◌, ◌++◌}
+use Rattle.std.proofs.Common.{◌≡◌, ◌≢◌, ℕ, ◌+◌, ◌*◌, ◌<◌, ◌≤◌, ◌^◌, true, false, cond, ◌==◌, not, ◌&&◌, nat_le, nat_lt, List, [], ◌∷◌, ◌++◌}
 use Rattle.std.proofs.Common.{length, drop}
 use Rattle.std.proofs.Common.{take, refl, sym, ap, ◌∙◌, subst, arith, codes, decimal, get_or, All, inl, inr}
 use Rattle.std.specs.List.{AllByRecursion, join_with_byte, list_all, before_first}
@@ -13,7 +13,7 @@ use Rattle.ncc_bookmark.specs.Point.{Point, Fits}
 use Rattle.ncc_bookmark.specs.Spelling.{text_of}
 use Rattle.ncc_bookmark.proofs.Texts.{point_of_text}
 use Rattle.ncc_replay.specs.Line.{bookmark_words, is_bookmark_word, hex, MayPresent, Spellable, words_of, Says, setup_words, SaysCluster}
-use Rattle.ncc_replay.specs.Line.{SaysNone, IsRightBut, IsCause, first_word, is_verb}
+use Rattle.ncc_replay.specs.Line.{SaysNone, IsRightBut, IsCause, first_word, is_verb, job_words, limit_words, FitsLimit}
 use Rattle.ncc_replay.specs.Reading.{words_between, AreWords, AreRightBut, AreBad, IsBookmark, AreBookmarks, AreNoBookmarks, AreSetup}
 use Rattle.ncc_replay.specs.Reading.{verb_word}
 use Rattle.std.proofs.Common.{Bool, Option, None, Some, Result, Ok, Err, IfNone, IsErrOf}
@@ -26,15 +26,19 @@ use Rattle.ncc_replay.proofs.Words.{NoSpace, words-join, join-words, decimal_no_
 use Rattle.ncc_replay.proofs.Words.{bookmark_word_no_space, no_space_before}
 use Rattle.ncc_replay.proofs.Words.{text_is_word}
 use Rattle.ncc_replay.proofs.Digits.{hex_no_space, hex_injective}
+use Rattle.ncc_replay.proofs.Numbers.{signed_no_space, signed_injective}
 use Rattle.ncc_replay.specs.declared.line.Verb.{Verb}
 use Rattle.ncc_replay.specs.declared.line.Verb.TheVariants as Verbs
 use Rattle.ncc_replay.specs.declared.status.Cause.{Cause}
 use Rattle.ncc_replay.specs.declared.status.Cause.TheVariants as c
 use Rattle.ncc_replay.specs.declared.status.Cause.TheVariants.{BadLine, BadBookmark, UnknownVerb}
-use Rattle.ncc_world.specs.Events.{is_word, AreOf}
+use Rattle.ncc_world.specs.Events.{is_word, AreOf, MayBegin}
 use Rattle.ncc_world.specs.Setting.{IsSetup}
 use Rattle.ncc_world.specs.declared.event.Event.{Event}
-use Rattle.ncc_world.specs.declared.event.Event.TheVariants.{Time, Put, Get, Apply, Open, Bytes, Close}
+use Rattle.ncc_world.specs.declared.event.Event.TheVariants.{Time, Put, Get, Apply, Open, Bytes, Close, Session, Work, Up, Down, Pump, Cut}
+use Rattle.ncc_world.specs.declared.event.Job.{Job}
+use Rattle.ncc_world.specs.declared.event.Job.TheVariants.{Add}
+use Rattle.ncc_world.specs.declared.event.Job.TheVariants as job
 use Rattle.ncc_world.specs.declared.setup.Setup.{Setup}
 use Rattle.ncc_world.specs.declared.setup.Kind.{Kind}
 
@@ -45,6 +49,24 @@ literal w h = All-from_recursion (λ b. (b == 32) ≡ false) w h
 bookmark_words_no_space : (bs : List Point) → AllByRecursion NoSpace (bookmark_words bs)
 bookmark_words_no_space [] = tt
 bookmark_words_no_space (b ∷ bs) = (text_no_space b, bookmark_words_no_space bs)
+
+job_no_space : (j : Job) → MayBegin j → AllByRecursion NoSpace (job_words j)
+job_no_space (Add key by) h = (
+  literal (codes "add") (refl, (refl, (refl, tt))),
+  (word_no_space key h.0, (signed_no_space by h.1, tt)),
+)
+job_no_space (job.Put key value) h = (
+  literal (codes "put") (refl, (refl, (refl, tt))),
+  (word_no_space key h.0, (word_no_space value h.1, tt)),
+)
+job_no_space (job.Get key) h = (
+  literal (codes "get") (refl, (refl, (refl, tt))),
+  (word_no_space key h, tt),
+)
+
+limit_no_space : (requests : Option ℕ) → FitsLimit requests → AllByRecursion NoSpace (limit_words requests)
+limit_no_space None h = tt
+limit_no_space (Some requests) h = (decimal_no_space requests h.1, tt)
 
 -- the words of what a line can say have no spaces, so that a line is cut into just these
 words_no_space : (cluster : ℕ) (e : Event) → Spellable cluster e → AllByRecursion NoSpace (words_of e)
@@ -79,15 +101,34 @@ words_no_space cluster (Close conn) h = (
   literal (codes "close") (refl, (refl, (refl, (refl, (refl, tt))))),
   (decimal_no_space conn h, tt),
 )
+words_no_space cluster (Session seed) h = (
+  literal (codes "session") (refl, (refl, (refl, (refl, (refl, (refl, (refl, tt))))))),
+  (decimal_no_space seed h, tt),
+)
+words_no_space cluster (Work session job) h = (
+  literal (codes "work") (refl, (refl, (refl, (refl, tt)))),
+  (decimal_no_space session h.0, job_no_space job h.1),
+)
+words_no_space cluster (Up session count) h = (
+  literal (codes "up") (refl, (refl, tt)),
+  (decimal_no_space session h.0, (decimal_no_space count h.1, tt)),
+)
+words_no_space cluster (Down session count) h = (
+  literal (codes "down") (refl, (refl, (refl, (refl, tt)))),
+  (decimal_no_space session h.0, (decimal_no_space count h.1, tt)),
+)
+words_no_space cluster (Pump session requests) h = (
+  literal (codes "pump") (refl, (refl, (refl, (refl, tt)))),
+  (decimal_no_space session h.0, limit_no_space requests h.1),
+)
+words_no_space cluster (Cut session) h = (
+  literal (codes "cut") (refl, (refl, (refl, tt))),
+  (decimal_no_space session h, tt),
+)
 
 words_nonempty : (e : Event) → 0 < length (words_of e)
 words_nonempty (Time to) = omega arith
-words_nonempty (Put member key value bs) = omega arith
-words_nonempty (Get member key bs) = omega arith
-words_nonempty (Apply member count) = omega arith
-words_nonempty (Open member) = omega arith
-words_nonempty (Bytes conn bytes) = omega arith
-words_nonempty (Close conn) = omega arith
+words_nonempty e = omega arith
 
 -- between a line and its words
 
@@ -146,9 +187,22 @@ abbrev pub first_word_of : List (List ℕ) → List ℕ
 first_word_of [] = []
 first_word_of (w ∷ ws) = w
 
--- two letters of the first word, added: each verb has a sum of its own
-abbrev first_byte : List (List ℕ) → ℕ
-first_byte words = get_or (first_word_of words) 0 0 + get_or (first_word_of words) 2 0
+-- twice the first letter of the first word and its third, added: each verb has a sum of its own
+abbrev pub first_byte : List (List ℕ) → ℕ
+first_byte words = 2 * get_or (first_word_of words) 0 0 + get_or (first_word_of words) 2 0
+
+jobs_one : (a b : Job) → MayBegin a → MayBegin b → job_words a ≡ job_words b → a ≡ b
+jobs_one (Add k x) (Add l y) f g e =
+    let numbers : x ≡ y = signed_injective x y f.1 g.1 (cc) in
+    cc
+jobs_one (job.Put k v) (job.Put l w) f g e = cc
+jobs_one (job.Get k) (job.Get l) f g e = cc
+jobs_one a b f g e = absurd (omega (arith, ap first_byte e))
+
+limits_one : (a b : Option ℕ) → FitsLimit a → FitsLimit b → limit_words a ≡ limit_words b → a ≡ b
+limits_one None None f g e = refl
+limits_one (Some m) (Some n) f g e = ap Some (decimal_injective m n f.1 g.1 (cc))
+limits_one a b f g e = absurd (omega (arith, ap length e))
 
 words_one : (cluster : ℕ) (a b : Event) → Spellable cluster a → Spellable cluster b → words_of a ≡ words_of b → a ≡ b
 words_one cluster (Time s) (Time t) f g e =
@@ -176,48 +230,29 @@ words_one cluster (Bytes x bs) (Bytes y cs) f g e =
 words_one cluster (Close x) (Close y) f g e =
     let texts : decimal x ≡ decimal y = cc in
     ap Close (decimal_injective x y f g texts)
-words_one cluster (Time s) (Put n l w qs) f g e = absurd (omega (arith, ap first_byte e))
-words_one cluster (Time s) (Get n l qs) f g e = absurd (omega (arith, ap first_byte e))
-words_one cluster (Time s) (Apply n j) f g e = absurd (omega (arith, ap first_byte e))
-words_one cluster (Time s) (Open n) f g e = absurd (omega (arith, ap first_byte e))
-words_one cluster (Time s) (Bytes y cs) f g e = absurd (omega (arith, ap first_byte e))
-words_one cluster (Time s) (Close y) f g e = absurd (omega (arith, ap first_byte e))
-words_one cluster (Put m k v ps) (Time t) f g e = absurd (omega (arith, ap first_byte e))
-words_one cluster (Put m k v ps) (Get n l qs) f g e = absurd (omega (arith, ap first_byte e))
-words_one cluster (Put m k v ps) (Apply n j) f g e = absurd (omega (arith, ap first_byte e))
-words_one cluster (Put m k v ps) (Open n) f g e = absurd (omega (arith, ap first_byte e))
-words_one cluster (Put m k v ps) (Bytes y cs) f g e = absurd (omega (arith, ap first_byte e))
-words_one cluster (Put m k v ps) (Close y) f g e = absurd (omega (arith, ap first_byte e))
-words_one cluster (Get m k ps) (Time t) f g e = absurd (omega (arith, ap first_byte e))
-words_one cluster (Get m k ps) (Put n l w qs) f g e = absurd (omega (arith, ap first_byte e))
-words_one cluster (Get m k ps) (Apply n j) f g e = absurd (omega (arith, ap first_byte e))
-words_one cluster (Get m k ps) (Open n) f g e = absurd (omega (arith, ap first_byte e))
-words_one cluster (Get m k ps) (Bytes y cs) f g e = absurd (omega (arith, ap first_byte e))
-words_one cluster (Get m k ps) (Close y) f g e = absurd (omega (arith, ap first_byte e))
-words_one cluster (Apply m i) (Time t) f g e = absurd (omega (arith, ap first_byte e))
-words_one cluster (Apply m i) (Put n l w qs) f g e = absurd (omega (arith, ap first_byte e))
-words_one cluster (Apply m i) (Get n l qs) f g e = absurd (omega (arith, ap first_byte e))
-words_one cluster (Apply m i) (Open n) f g e = absurd (omega (arith, ap first_byte e))
-words_one cluster (Apply m i) (Bytes y cs) f g e = absurd (omega (arith, ap first_byte e))
-words_one cluster (Apply m i) (Close y) f g e = absurd (omega (arith, ap first_byte e))
-words_one cluster (Open m) (Time t) f g e = absurd (omega (arith, ap first_byte e))
-words_one cluster (Open m) (Put n l w qs) f g e = absurd (omega (arith, ap first_byte e))
-words_one cluster (Open m) (Get n l qs) f g e = absurd (omega (arith, ap first_byte e))
-words_one cluster (Open m) (Apply n j) f g e = absurd (omega (arith, ap first_byte e))
-words_one cluster (Open m) (Bytes y cs) f g e = absurd (omega (arith, ap first_byte e))
-words_one cluster (Open m) (Close y) f g e = absurd (omega (arith, ap first_byte e))
-words_one cluster (Bytes x bs) (Time t) f g e = absurd (omega (arith, ap first_byte e))
-words_one cluster (Bytes x bs) (Put n l w qs) f g e = absurd (omega (arith, ap first_byte e))
-words_one cluster (Bytes x bs) (Get n l qs) f g e = absurd (omega (arith, ap first_byte e))
-words_one cluster (Bytes x bs) (Apply n j) f g e = absurd (omega (arith, ap first_byte e))
-words_one cluster (Bytes x bs) (Open n) f g e = absurd (omega (arith, ap first_byte e))
-words_one cluster (Bytes x bs) (Close y) f g e = absurd (omega (arith, ap first_byte e))
-words_one cluster (Close x) (Time t) f g e = absurd (omega (arith, ap first_byte e))
-words_one cluster (Close x) (Put n l w qs) f g e = absurd (omega (arith, ap first_byte e))
-words_one cluster (Close x) (Get n l qs) f g e = absurd (omega (arith, ap first_byte e))
-words_one cluster (Close x) (Apply n j) f g e = absurd (omega (arith, ap first_byte e))
-words_one cluster (Close x) (Open n) f g e = absurd (omega (arith, ap first_byte e))
-words_one cluster (Close x) (Bytes y cs) f g e = absurd (omega (arith, ap first_byte e))
+words_one cluster (Session s) (Session t) f g e =
+    let texts : decimal s ≡ decimal t = cc in
+    ap Session (decimal_injective s t f g texts)
+words_one cluster (Work s j) (Work t k) f g e =
+    let sessions : s ≡ t = decimal_injective s t f.0 g.0 (cc) in
+    let jobs : j ≡ k = jobs_one j k f.1 g.1 (ap (drop 2) e) in
+    cc
+words_one cluster (Up s i) (Up t j) f g e =
+    let sessions : s ≡ t = decimal_injective s t f.0 g.0 (cc) in
+    let counts : i ≡ j = decimal_injective i j f.1 g.1 (cc) in
+    cc
+words_one cluster (Down s i) (Down t j) f g e =
+    let sessions : s ≡ t = decimal_injective s t f.0 g.0 (cc) in
+    let counts : i ≡ j = decimal_injective i j f.1 g.1 (cc) in
+    cc
+words_one cluster (Pump s i) (Pump t j) f g e =
+    let sessions : s ≡ t = decimal_injective s t f.0 g.0 (cc) in
+    let limits : i ≡ j = limits_one i j f.1 g.1 (ap (drop 2) e) in
+    cc
+words_one cluster (Cut s) (Cut t) f g e =
+    let texts : decimal s ≡ decimal t = cc in
+    ap Cut (decimal_injective s t f g texts)
+words_one cluster a b f g e = absurd (omega (arith, ap first_byte e))
 
 -- a line says one event at most
 pub says_one : (cluster : ℕ) (line : List ℕ) (a b : Event) → Says cluster line a → Says cluster line b → a ≡ b
@@ -269,26 +304,17 @@ bad_bookmark cluster (p ∷ ps) (q ∷ qs) w ws none f e =
 
 -- a line that begins with `time` can say nothing but a `time`, and so for each verb; and no bookmarks can stand behind it
 
-not_right : (words : List (List ℕ)) → first_byte words ≢ 228 → first_byte words ≢ 219 → AreRightBut words → ⊥
+pub not_right : (words : List (List ℕ)) → first_byte words ≢ 340 → first_byte words ≢ 322 → AreRightBut words → ⊥
 not_right words put get r = go r.event r.words_are r.presents where
   go : (e : Event) → words ≡ words_of e ++ r.more → MayPresent e → ⊥
   go (Put member key value bs) w h = put (ap first_byte w)
   go (Get member key bs) w h = get (ap first_byte w)
-  go (Time to) w h = h
-  go (Apply member count) w h = h
-  go (Open member) w h = h
-  go (Bytes conn bytes) w h = h
-  go (Close conn) w h = h
+  go e w h = h
 
 time_none : (cluster : ℕ) (words : List (List ℕ)) → ((to : ℕ) → to < 2 ^ 64 → words ≢ decimal to ∷ []) → (e : Event) → AreWords cluster
     (codes "time" ∷ words) e → ⊥
 time_none cluster words none (Time to) h = none to h.0 (ap (drop 1) h.1)
-time_none cluster words none (Put member key value bs) h = omega (arith, ap first_byte h.1)
-time_none cluster words none (Get member key bs) h = omega (arith, ap first_byte h.1)
-time_none cluster words none (Apply member count) h = omega (arith, ap first_byte h.1)
-time_none cluster words none (Open member) h = omega (arith, ap first_byte h.1)
-time_none cluster words none (Bytes conn bytes) h = omega (arith, ap first_byte h.1)
-time_none cluster words none (Close conn) h = omega (arith, ap first_byte h.1)
+time_none cluster words none e h = omega (arith, ap first_byte h.1)
 
 pub time_bad : (words : List (List ℕ)) → ((to : ℕ) → to < 2 ^ 64 → words ≢ decimal to ∷ []) → (cluster : ℕ) → AreBad cluster
     (codes "time" ∷ words) BadLine
@@ -299,13 +325,8 @@ time_bad words none cluster = record {
 
 apply_none : (cluster : ℕ) (words : List (List ℕ)) → ((member count : ℕ) → member < 2 ^ 8 → 1 ≤ count → count < 2 ^ 64 →
     words ≢ decimal member ∷ decimal count ∷ []) → (e : Event) → AreWords cluster (codes "apply" ∷ words) e → ⊥
-apply_none cluster words none (Time to) h = omega (arith, ap first_byte h.1)
-apply_none cluster words none (Put member key value bs) h = omega (arith, ap first_byte h.1)
-apply_none cluster words none (Get member key bs) h = omega (arith, ap first_byte h.1)
 apply_none cluster words none (Apply member count) h = none member count h.0.0 h.0.1 h.0.2 (ap (drop 1) h.1)
-apply_none cluster words none (Open member) h = omega (arith, ap first_byte h.1)
-apply_none cluster words none (Bytes conn bytes) h = omega (arith, ap first_byte h.1)
-apply_none cluster words none (Close conn) h = omega (arith, ap first_byte h.1)
+apply_none cluster words none e h = omega (arith, ap first_byte h.1)
 
 pub apply_bad : (words : List (List ℕ)) → ((member count : ℕ) → member < 2 ^ 8 → 1 ≤ count → count < 2 ^ 64 →
     words ≢ decimal member ∷ decimal count ∷ []) → (cluster : ℕ) → AreBad cluster (codes "apply" ∷ words) BadLine
@@ -316,13 +337,8 @@ apply_bad words none cluster = record {
 
 open_none : (cluster : ℕ) (words : List (List ℕ)) → ((member : ℕ) → member < 2 ^ 8 → words ≢ decimal member ∷ []) → (e : Event) →
     AreWords cluster (codes "open" ∷ words) e → ⊥
-open_none cluster words none (Time to) h = omega (arith, ap first_byte h.1)
-open_none cluster words none (Put member key value bs) h = omega (arith, ap first_byte h.1)
-open_none cluster words none (Get member key bs) h = omega (arith, ap first_byte h.1)
-open_none cluster words none (Apply member count) h = omega (arith, ap first_byte h.1)
 open_none cluster words none (Open member) h = none member h.0 (ap (drop 1) h.1)
-open_none cluster words none (Bytes conn bytes) h = omega (arith, ap first_byte h.1)
-open_none cluster words none (Close conn) h = omega (arith, ap first_byte h.1)
+open_none cluster words none e h = omega (arith, ap first_byte h.1)
 
 pub open_bad : (words : List (List ℕ)) → ((member : ℕ) → member < 2 ^ 8 → words ≢ decimal member ∷ []) → (cluster : ℕ) → AreBad cluster
     (codes "open" ∷ words) BadLine
@@ -333,13 +349,8 @@ open_bad words none cluster = record {
 
 close_none : (cluster : ℕ) (words : List (List ℕ)) → ((conn : ℕ) → conn < 2 ^ 64 → words ≢ decimal conn ∷ []) → (e : Event) →
     AreWords cluster (codes "close" ∷ words) e → ⊥
-close_none cluster words none (Time to) h = omega (arith, ap first_byte h.1)
-close_none cluster words none (Put member key value bs) h = omega (arith, ap first_byte h.1)
-close_none cluster words none (Get member key bs) h = omega (arith, ap first_byte h.1)
-close_none cluster words none (Apply member count) h = omega (arith, ap first_byte h.1)
-close_none cluster words none (Open member) h = omega (arith, ap first_byte h.1)
-close_none cluster words none (Bytes conn bytes) h = omega (arith, ap first_byte h.1)
 close_none cluster words none (Close conn) h = none conn h.0 (ap (drop 1) h.1)
+close_none cluster words none e h = omega (arith, ap first_byte h.1)
 
 pub close_bad : (words : List (List ℕ)) → ((conn : ℕ) → conn < 2 ^ 64 → words ≢ decimal conn ∷ []) → (cluster : ℕ) → AreBad cluster
     (codes "close" ∷ words) BadLine
@@ -351,13 +362,8 @@ close_bad words none cluster = record {
 bytes_none : (cluster : ℕ) (words : List (List ℕ)) → ((conn : ℕ) (bytes : List ℕ) → conn < 2 ^ 64 → 1 ≤ length bytes →
     length bytes ≤ 1_048_576 → All (λ b. b < 2 ^ 8) bytes → words ≢ decimal conn ∷ hex bytes ∷ []) → (e : Event) → AreWords cluster
     (codes "bytes" ∷ words) e → ⊥
-bytes_none cluster words none (Time to) h = omega (arith, ap first_byte h.1)
-bytes_none cluster words none (Put member key value bs) h = omega (arith, ap first_byte h.1)
-bytes_none cluster words none (Get member key bs) h = omega (arith, ap first_byte h.1)
-bytes_none cluster words none (Apply member count) h = omega (arith, ap first_byte h.1)
-bytes_none cluster words none (Open member) h = omega (arith, ap first_byte h.1)
 bytes_none cluster words none (Bytes conn bytes) h = none conn bytes h.0.0 h.0.1 h.0.2 h.0.3 (ap (drop 1) h.1)
-bytes_none cluster words none (Close conn) h = omega (arith, ap first_byte h.1)
+bytes_none cluster words none e h = omega (arith, ap first_byte h.1)
 
 pub bytes_bad : (words : List (List ℕ)) → ((conn : ℕ) (bytes : List ℕ) → conn < 2 ^ 64 → 1 ≤ length bytes → length bytes ≤ 1_048_576 →
     All (λ b. b < 2 ^ 8) bytes → words ≢ decimal conn ∷ hex bytes ∷ []) → (cluster : ℕ) → AreBad cluster (codes "bytes" ∷ words) BadLine
@@ -369,13 +375,8 @@ bytes_bad words none cluster = record {
 put_none : (cluster : ℕ) (words : List (List ℕ)) → ((member : ℕ) (key value : List ℕ) (bs : List Point) → member < 2 ^ 8 →
     is_word key ≡ true → is_word value ≡ true → AreOf cluster bs → words ≢ decimal member ∷ key ∷ value ∷ bookmark_words bs)
     → (e : Event) → AreWords cluster (codes "put" ∷ words) e → ⊥
-put_none cluster words none (Time to) h = omega (arith, ap first_byte h.1)
 put_none cluster words none (Put member key value bs) h = none member key value bs h.0.0 h.0.1 h.0.2 h.0.3 (ap (drop 1) h.1)
-put_none cluster words none (Get member key bs) h = omega (arith, ap first_byte h.1)
-put_none cluster words none (Apply member count) h = omega (arith, ap first_byte h.1)
-put_none cluster words none (Open member) h = omega (arith, ap first_byte h.1)
-put_none cluster words none (Bytes conn bytes) h = omega (arith, ap first_byte h.1)
-put_none cluster words none (Close conn) h = omega (arith, ap first_byte h.1)
+put_none cluster words none e h = omega (arith, ap first_byte h.1)
 
 -- the words of a `put` and others behind it
 record IsPutBut (words : List (List ℕ)) : Type 0 where
@@ -392,7 +393,6 @@ record IsPutBut (words : List (List ℕ)) : Type 0 where
 put_right : (words : List (List ℕ)) → AreRightBut (codes "put" ∷ words) → IsPutBut words
 put_right words r = go r.event r.words_are r.presents r.spellable where
   go : (e : Event) → codes "put" ∷ words ≡ words_of e ++ r.more → MayPresent e → Spellable 0 e → IsPutBut words
-  go (Time to) w h s = absurd h
   go (Put member key value bs) w h s = record {
     member = member;
     key = key;
@@ -405,10 +405,7 @@ put_right words r = go r.event r.words_are r.presents r.spellable where
     words_are = ap (drop 1) w ∙ ap (λ l. (decimal member ∷ key ∷ value ∷ bookmark_words l) ++ r.more) h;
   }
   go (Get member key bs) w h s = absurd (omega (arith, ap first_byte w))
-  go (Apply member count) w h s = absurd h
-  go (Open member) w h s = absurd h
-  go (Bytes conn bytes) w h s = absurd h
-  go (Close conn) w h s = absurd h
+  go e w h s = absurd h
 
 -- what stands in front of the bookmarks has another form
 pub put_bad : (cluster : ℕ) (words : List (List ℕ)) → ((member : ℕ) (key value : List ℕ) (more : List (List ℕ)) → member < 2 ^ 8 →
@@ -453,13 +450,8 @@ put_no_bookmarks cluster words member key value more cause f k v w b = record {
 get_none : (cluster : ℕ) (words : List (List ℕ)) → ((member : ℕ) (key : List ℕ) (bs : List Point) → member < 2 ^ 8 → is_word key ≡ true
     → AreOf cluster bs → words ≢ decimal member ∷ key ∷ bookmark_words bs)
     → (e : Event) → AreWords cluster (codes "get" ∷ words) e → ⊥
-get_none cluster words none (Time to) h = omega (arith, ap first_byte h.1)
-get_none cluster words none (Put member key value bs) h = omega (arith, ap first_byte h.1)
 get_none cluster words none (Get member key bs) h = none member key bs h.0.0 h.0.1 h.0.2 (ap (drop 1) h.1)
-get_none cluster words none (Apply member count) h = omega (arith, ap first_byte h.1)
-get_none cluster words none (Open member) h = omega (arith, ap first_byte h.1)
-get_none cluster words none (Bytes conn bytes) h = omega (arith, ap first_byte h.1)
-get_none cluster words none (Close conn) h = omega (arith, ap first_byte h.1)
+get_none cluster words none e h = omega (arith, ap first_byte h.1)
 
 -- the words of a `get` and others behind it
 record IsGetBut (words : List (List ℕ)) : Type 0 where
@@ -474,7 +466,6 @@ record IsGetBut (words : List (List ℕ)) : Type 0 where
 get_right : (words : List (List ℕ)) → AreRightBut (codes "get" ∷ words) → IsGetBut words
 get_right words r = go r.event r.words_are r.presents r.spellable where
   go : (e : Event) → codes "get" ∷ words ≡ words_of e ++ r.more → MayPresent e → Spellable 0 e → IsGetBut words
-  go (Time to) w h s = absurd h
   go (Put member key value bs) w h s = absurd (omega (arith, ap first_byte w))
   go (Get member key bs) w h s = record {
     member = member;
@@ -485,10 +476,7 @@ get_right words r = go r.event r.words_are r.presents r.spellable where
     are_words = r.are_words;
     words_are = ap (drop 1) w ∙ ap (λ l. (decimal member ∷ key ∷ bookmark_words l) ++ r.more) h;
   }
-  go (Apply member count) w h s = absurd h
-  go (Open member) w h s = absurd h
-  go (Bytes conn bytes) w h s = absurd h
-  go (Close conn) w h s = absurd h
+  go e w h s = absurd h
 
 -- what stands in front of the bookmarks has another form
 pub get_bad : (cluster : ℕ) (words : List (List ℕ)) → ((member : ℕ) (key : List ℕ) (more : List (List ℕ)) → member < 2 ^ 8 →
@@ -532,12 +520,7 @@ get_no_bookmarks cluster words member key more cause f k w b = record {
 
 cluster_none : (cluster : ℕ) (words : List (List ℕ)) (e : Event) → AreWords cluster (codes "cluster" ∷ words) e → ⊥
 cluster_none cluster words (Time to) h = omega (arith, ap first_byte h.1)
-cluster_none cluster words (Put member key value bs) h = omega (arith, ap first_byte h.1)
-cluster_none cluster words (Get member key bs) h = omega (arith, ap first_byte h.1)
-cluster_none cluster words (Apply member count) h = omega (arith, ap first_byte h.1)
-cluster_none cluster words (Open member) h = omega (arith, ap first_byte h.1)
-cluster_none cluster words (Bytes conn bytes) h = omega (arith, ap first_byte h.1)
-cluster_none cluster words (Close conn) h = omega (arith, ap first_byte h.1)
+cluster_none cluster words e h = omega (arith, ap first_byte h.1)
 
 pub cluster_bad : (words : List (List ℕ)) (cluster : ℕ) → AreBad cluster (codes "cluster" ∷ words) BadLine
 cluster_bad words cluster = record {
@@ -568,6 +551,12 @@ known_verb Verbs.Apply = refl
 known_verb Verbs.Open = refl
 known_verb Verbs.Bytes = refl
 known_verb Verbs.Close = refl
+known_verb Verbs.Session = refl
+known_verb Verbs.Work = refl
+known_verb Verbs.Up = refl
+known_verb Verbs.Down = refl
+known_verb Verbs.Pump = refl
+known_verb Verbs.Cut = refl
 
 pub is_known : (line : List ℕ) (v : Verb) → first_word line ≡ verb_word v → is_verb (first_word line) ≡ true
 is_known line v e = ap is_verb e ∙ known_verb v
@@ -584,12 +573,7 @@ both_no_space (x ∷ xs) ys f g = (f.0, both_no_space xs ys f.1 g)
 
 both_nonempty : (e : Event) (more : List (List ℕ)) → 0 < length (words_of e ++ more)
 both_nonempty (Time to) more = omega arith
-both_nonempty (Put member key value bs) more = omega arith
-both_nonempty (Get member key bs) more = omega arith
-both_nonempty (Apply member count) more = omega arith
-both_nonempty (Open member) more = omega arith
-both_nonempty (Bytes conn bytes) more = omega arith
-both_nonempty (Close conn) more = omega arith
+both_nonempty e more = omega arith
 
 pub right_words : (line : List ℕ) → IsRightBut line → AreRightBut (words_between line)
 right_words line r = record {
@@ -638,21 +622,11 @@ bad_line cluster line cause known bad = record {
 -- the first word of an event's words is a verb
 event_known : (e : Event) → is_verb (first_word_of (words_of e)) ≡ true
 event_known (Time to) = refl
-event_known (Put member key value bs) = refl
-event_known (Get member key bs) = refl
-event_known (Apply member count) = refl
-event_known (Open member) = refl
-event_known (Bytes conn bytes) = refl
-event_known (Close conn) = refl
+event_known e = refl
 
 first_of_both : (e : Event) (more : List (List ℕ)) → first_word_of (words_of e ++ more) ≡ first_word_of (words_of e)
 first_of_both (Time to) more = refl
-first_of_both (Put member key value bs) more = refl
-first_of_both (Get member key bs) more = refl
-first_of_both (Apply member count) more = refl
-first_of_both (Open member) more = refl
-first_of_both (Bytes conn bytes) more = refl
-first_of_both (Close conn) more = refl
+first_of_both e more = refl
 
 pub right_known : (line : List ℕ) → first_word line ≡ first_word_of (words_between line) → IsRightBut line → is_verb
     (first_word line) ≡ true

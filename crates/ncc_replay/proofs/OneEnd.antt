@@ -7,7 +7,9 @@ use Rattle.ncc_world.specs.declared.event.Event.{Event}
 use Rattle.ncc_world.specs.declared.error.WorldError.{WorldError}
 use Rattle.ncc_world.specs.declared.error.Which.TheVariants.{Line as LineLimit, Events as EventsLimit}
 use Rattle.ncc_world.specs.Happening.{ListRun, start_of, refusal, Happens, RunsOn}
-use Rattle.ncc_world.specs.Headline.{EveryRunKeeps, Headline, OneRun}
+use Rattle.ncc_clients.specs.Reads.{SessionsReadTheirWrites}
+use Rattle.ncc_world.specs.Headline.{EveryRunKeeps, Headline, OneRun, AllMayHappen}
+use Rattle.ncc_world.specs.Showing.{works_of}
 use Rattle.ncc_world.specs.Setting.{IsSetup}
 use Rattle.ncc_replay.specs.Line.{Says, SaysNone, SaysCluster, IsCause, IsRightBut, first_word, is_verb, is_skipped}
 use Rattle.ncc_replay.specs.Script.{Script, End, whole, refused, limited, Lines, Counts, Accepted, IsRefusedFor, EventLines}
@@ -18,6 +20,10 @@ use Rattle.ncc_replay.specs.declared.status.Cause.TheVariants as c
 use Rattle.ncc_replay.specs.declared.status.Cause.TheVariants.{BadLine, BadBookmark, UnknownVerb, NoCluster}
 use Rattle.ncc_replay.proofs.Lines.{says_one, says_one_cluster, right_known}
 use Rattle.ncc_replay.proofs.Lines.{cluster_first, first_of_line}
+use Rattle.ncc_replay.specs.Replay.{OfRun}
+use Rattle.ncc_replay.specs.Report.{WorksFit}
+use Rattle.ncc_replay.proofs.Scripts.{may_happen}
+use Rattle.ncc_replay.proofs.WorksFit.{works_fit}
 
 true_false : (b : Bool) → b ≡ true → b ≡ false → ⊥
 true_false b e f = cc
@@ -339,9 +345,23 @@ events_run s n r ls es t end (EventLines.happens na ra ma numbera linea lsa even
   events_run s (na + 1) ma lsa esa ta enda morea,
 )
 
+-- a world takes each of the events
+pub events_may_happen : (s : Setup) (n : ℕ) (r : ListRun) (ls : Lines) (es : List (ℕ × Event)) (t : ListRun) (end : End)
+    → EventLines s n r ls es t end → AllMayHappen s es
+events_may_happen s n r ls es t end (EventLines.none_left na ra) = tt
+events_may_happen s n r ls es t end (EventLines.long na ra number line lsa h) = tt
+events_may_happen s n r ls es t end (EventLines.skipped na ra number line lsa esa ta enda f h more) =
+    events_may_happen s na ra lsa esa ta enda more
+events_may_happen s n r ls es t end (EventLines.says_none na ra number line lsa cause c none) = tt
+events_may_happen s n r ls es t end (EventLines.not_allowed na ra number line lsa event cause c says noa) = tt
+events_may_happen s n r ls es t end (EventLines.many na ra number line lsa event a m) = tt
+events_may_happen s n r ls es t end (EventLines.happens na ra ma number line lsa event esa ta enda a few did more) =
+    (may_happen s.cluster line event a.says a.counts.short, events_may_happen s (na + 1) ma lsa esa ta enda more)
+
 pub record RunsAsSaid (s : Script) (t : Option ListRun) (setup : Setup) (r : ListRun) : Type 0 where
   pub allowed : IsSetup setup
   pub runs : RunsOn setup s.events (start_of setup) r
+  pub may_happen : AllMayHappen setup s.events
 
 cluster_run : (ls : Lines) (s : Script) (t : Option ListRun) (end : End) (setup : Setup) (r : ListRun) → ClusterLines ls s t end
     → s.setup ≡ Some setup → t ≡ Some r → RunsAsSaid s t setup r
@@ -356,6 +376,7 @@ cluster_run ls s t end setup r (ClusterLines.says number line rest it es u stop 
       allowed = subst IsSetup setups says.allowed;
       runs = subst (λ v. RunsOn setup es (start_of setup) v) runs
           (subst (λ v. RunsOn v es (start_of v) u) setups (events_run it 0 (start_of it) rest es u stop more));
+      may_happen = subst (λ v. AllMayHappen v es) setups (events_may_happen it 0 (start_of it) rest es u stop more);
     }
 
 script_run : (ls : Lines) (s : Script) (t : Option ListRun) (end : End) (setup : Setup) (r : ListRun) → ScriptLines ls s t end
@@ -372,3 +393,15 @@ pub text_keeps : EveryRunKeeps → (text : List ℕ) (s : Script) (t : Option Li
 text_keeps keeps text s t end is setup r e f =
     let run = script_run (numbered text) s t end setup r is e f in
     keeps setup s.events r run.allowed run.runs
+
+-- and sessions read their writes in it
+pub text_reads : EveryRunKeeps → (text : List ℕ) (s : Script) (t : Option ListRun) (end : End) → IsText text s t end → (setup : Setup)
+    (r : ListRun) → s.setup ≡ Some setup → t ≡ Some r → SessionsReadTheirWrites r
+text_reads keeps text s t end is setup r e f =
+    let run = script_run (numbered text) s t end setup r is e f in
+    (keeps setup s.events r run.allowed run.runs).sessions_read_their_writes run.may_happen
+
+-- the rows of the works that have ended in it have a spelling
+pub text_fits : (text : List ℕ) (s : Script) (t : Option ListRun) (end : End) → IsText text s t end
+    → OfRun (λ setup events run. WorksFit (works_of run)) s t
+text_fits text s t end is = λ setup r e f. works_fit setup s.events r (script_run (numbered text) s t end setup r is e f).runs

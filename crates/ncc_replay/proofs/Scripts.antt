@@ -13,15 +13,15 @@ use Rattle.std.proofs.lemmas.List.Sums.{fails_before_first}
 use Rattle.std.proofs.lemmas.List.Quantifiers.{position-Some}
 use Rattle.ncc_world.specs.declared.setup.Setup.{Setup}
 use Rattle.ncc_world.specs.declared.event.Event.{Event}
-use Rattle.ncc_world.specs.declared.event.Event.TheVariants.{Time, Put, Get, Apply, Open, Bytes, Close}
+use Rattle.ncc_world.specs.declared.event.Event.TheVariants.{Time, Put, Get, Apply, Open, Bytes, Close, Session, Work, Up, Down, Pump, Cut}
 use Rattle.ncc_world.specs.declared.error.WorldError.{WorldError}
 use Rattle.ncc_world.specs.declared.error.WorldError.TheVariants as w
 use Rattle.ncc_world.specs.declared.error.Which.{Which}
 use Rattle.ncc_world.specs.declared.error.Which.TheVariants.{Line as LineLimit, Events as EventsLimit}
-use Rattle.ncc_world.specs.Events.{MayHappen}
+use Rattle.ncc_world.specs.Events.{MayHappen, CountsSome}
 use Rattle.ncc_world.specs.Happening.{ListRun, start_of, refusal, Happens}
 use Rattle.ncc_world.specs.World.{Kept, Stands, Standing, alive, past, is_refusal}
-use Rattle.ncc_replay.specs.Line.{Says, SaysNone, SaysCluster, Spellable, bookmark_words, words_of, header, is_skipped}
+use Rattle.ncc_replay.specs.Line.{Says, SaysNone, SaysCluster, Spellable, FitsLimit, bookmark_words, words_of, header, is_skipped}
 use Rattle.ncc_replay.specs.Script.{Script, End, whole, refused, limited, Lines, lines_of, Counts, Accepted, IsRefusedFor, EventLines}
 use Rattle.ncc_replay.specs.Script.{ClusterLines}
 use Rattle.ncc_replay.specs.Script.{ScriptLines, IsNoCluster, is_long, max_events, cause_of}
@@ -290,6 +290,10 @@ join_len [] = omega arith
 join_len (w ∷ []) = omega arith
 join_len (w ∷ v ∷ vs) = omega (arith, join_len (v ∷ vs), length-append w (32 ∷ join_with_byte 32 (v ∷ vs)))
 
+some_requests : (requests : Option ℕ) → FitsLimit requests → CountsSome requests
+some_requests None h = tt
+some_requests (Some n) h = h.0
+
 pub may_happen : (cluster : ℕ) (line : List ℕ) (event : Event) → Says cluster line event → is_long line ≡ false → MayHappen cluster event
 may_happen cluster line (Time to) h f = tt
 may_happen cluster line (Put member key value bs) h f = (
@@ -307,6 +311,12 @@ may_happen cluster line (Apply member count) h f = h.0.1
 may_happen cluster line (Open member) h f = tt
 may_happen cluster line (Bytes conn bytes) h f = (h.0.1, h.0.2)
 may_happen cluster line (Close conn) h f = tt
+may_happen cluster line (Session seed) h f = tt
+may_happen cluster line (Work session job) h f = h.0.1
+may_happen cluster line (Up session count) h f = tt
+may_happen cluster line (Down session count) h f = tt
+may_happen cluster line (Pump session requests) h f = some_requests requests h.0.1
+may_happen cluster line (Cut session) h f = tt
 
 -- nothing stands behind the whole
 pub no_more : (text : List ℕ) → take (length text - length text) (drop (length text) text) ≡ []

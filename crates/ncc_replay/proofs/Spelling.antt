@@ -26,13 +26,13 @@ use Rattle.ncc_tx.specs.State.{stamps, stamps_from, after, stamp_at}
 use Rattle.ncc_store.specs.Graph.{Graph, empty}
 use Rattle.ncc_apply.specs.View.{stamp_of}
 use Rattle.ncc_world.specs.Events.{is_word}
-use Rattle.ncc_replay.specs.Report.{rows_text, rows_hex, text_or_hex, parts_of, put_parts, place_line, place_lines}
-use Rattle.ncc_replay.specs.Report.{fact_line, conn_line, out_line, member_line, history_text, report_of, report_by, report_text, no_report}
+use Rattle.ncc_replay.specs.Report.{spaced, rows_text, rows_hex, text_or_hex, parts_of, put_parts, place_line, place_lines}
+use Rattle.ncc_replay.specs.Report.{fact_line, work_line, conn_line, out_line, member_line, history_text, report_of, report_by, report_text, no_report}
 use Rattle.ncc_replay.specs.Script.{Script}
 use Rattle.ncc_store.specs.declared.step.Step.{Step}
 use Rattle.ncc_world.specs.Requests.{put_source}
 use Rattle.ncc_world.specs.Happening.{ListRun}
-use Rattle.ncc_world.specs.Showing.{members_of, conns_of}
+use Rattle.ncc_world.specs.Showing.{members_of, conns_of, works_of}
 use Rattle.ncc_world.specs.declared.setup.Setup.{Setup}
 use Rattle.std.proofs.Common.{Result, Ok, Err, OnOk}
 
@@ -244,19 +244,31 @@ put_other steps step e h = ap put_parts e ∙ (put_one step ∙ ap (λ b. cond b
 
 -- ---- the whole report
 
-pub report_made : (s : Setup) (r : ListRun) (x n1 n2 n3 n4 n5 n6 n7 : List ℕ) → n1 ≡ x ++ codes "ncc-report 1\n"
-    → n2 ≡ n1 ++ flat_map fact_line r.told → n3 ≡ n2 ++ flat_map conn_line (conns_of s r) → n4 ≡ n3 ++ flat_map out_line (conns_of s r)
-    → n5 ≡ n4 ++ flat_map member_line (members_of s r) → n6 ≡ n5 ++ history_text r.history → n7 ≡ n6 ++ codes "end\n"
-    → n7 ≡ x ++ report_of s r
+pub history_made : (h items : List Item) (n : ℕ) (x n1 n2 n3 : List ℕ) → n ≡ length h → items ≡ h → n1 ≡ x ++ (codes "history" ++ spaced n)
+    → n2 ≡ n1 ++ codes "\n" → n3 ≡ n2 ++ place_lines 1 items (stamps items) → n3 ≡ x ++ history_text h
+history_made h items n x n1 n2 n3 f g e1 e2 e3 =
+    e3 ∙ (ap (λ l. n2 ++ place_lines 1 l (stamps l)) g ∙ (ap (λ l. l ++ place_lines 1 h (stamps h)) (e2 ∙ ap (λ l. l ++ codes "\n")
+    (e1 ∙ ap (λ k. x ++ (codes "history" ++ spaced k)) f)) ∙ four x (codes "history") (spaced (length h)) (codes "\n")
+    (place_lines 1 h (stamps h)))) where
+      four : (x a b c d : List ℕ) → ((x ++ (a ++ b)) ++ c) ++ d ≡ x ++ (a ++ (b ++ (c ++ d)))
+      four x a b c d = simp append_assoc
+
+pub report_made : (s : Setup) (r : ListRun) (x n1 n2 n3 n4 n5 n6 n7 n8 : List ℕ) → n1 ≡ x ++ codes "ncc-report 1\n"
+    → n2 ≡ n1 ++ flat_map fact_line r.told → n3 ≡ n2 ++ flat_map work_line (works_of r)
+    → n4 ≡ n3 ++ flat_map conn_line (conns_of s r) → n5 ≡ n4 ++ flat_map out_line (conns_of s r)
+    → n6 ≡ n5 ++ flat_map member_line (members_of s r) → n7 ≡ n6 ++ history_text r.history → n8 ≡ n7 ++ codes "end\n"
+    → n8 ≡ x ++ report_of s r
 unfolding report_of
-report_made s r x n1 n2 n3 n4 n5 n6 n7 e1 e2 e3 e4 e5 e6 e7 =
-    seven x (codes "ncc-report 1\n") (flat_map fact_line r.told) (flat_map conn_line (conns_of s r)) (flat_map out_line (conns_of s r))
-    (flat_map member_line (members_of s r)) (history_text r.history) (codes "end\n") n1 n2 n3 n4 n5 n6 n7 e1 e2 e3 e4 e5 e6 e7 where
-      seven : (x a b c d e f g n1 n2 n3 n4 n5 n6 n7 : List ℕ) → n1 ≡ x ++ a → n2 ≡ n1 ++ b → n3 ≡ n2 ++ c → n4 ≡ n3 ++ d → n5 ≡ n4 ++ e
-          → n6 ≡ n5 ++ f → n7 ≡ n6 ++ g → n7 ≡ x ++ (a ++ (b ++ (c ++ (d ++ (e ++ (f ++ g))))))
-      seven x a b c d e f g n1 n2 n3 n4 n5 n6 n7 e1 e2 e3 e4 e5 e6 e7 =
-          e7 ∙ (ap (λ l. l ++ g) (e6 ∙ ap (λ l. l ++ f) (e5 ∙ ap (λ l. l ++ e) (e4 ∙ ap (λ l. l ++ d) (e3 ∙ ap (λ l. l ++ c)
-          (e2 ∙ ap (λ l. l ++ b) e1))))) ∙ simp append_assoc)
+report_made s r x n1 n2 n3 n4 n5 n6 n7 n8 e1 e2 e3 e4 e5 e6 e7 e8 =
+    eight x (codes "ncc-report 1\n") (flat_map fact_line r.told) (flat_map work_line (works_of r)) (flat_map conn_line (conns_of s r))
+    (flat_map out_line (conns_of s r)) (flat_map member_line (members_of s r)) (history_text r.history) (codes "end\n")
+    n1 n2 n3 n4 n5 n6 n7 n8 e1 e2 e3 e4 e5 e6 e7 e8 where
+      eight : (x a b c d e f g h n1 n2 n3 n4 n5 n6 n7 n8 : List ℕ) → n1 ≡ x ++ a → n2 ≡ n1 ++ b → n3 ≡ n2 ++ c → n4 ≡ n3 ++ d
+          → n5 ≡ n4 ++ e → n6 ≡ n5 ++ f → n7 ≡ n6 ++ g → n8 ≡ n7 ++ h
+          → n8 ≡ x ++ (a ++ (b ++ (c ++ (d ++ (e ++ (f ++ (g ++ h)))))))
+      eight x a b c d e f g h n1 n2 n3 n4 n5 n6 n7 n8 e1 e2 e3 e4 e5 e6 e7 e8 =
+          e8 ∙ (ap (λ l. l ++ h) (e7 ∙ ap (λ l. l ++ g) (e6 ∙ ap (λ l. l ++ f) (e5 ∙ ap (λ l. l ++ e) (e4 ∙ ap (λ l. l ++ d)
+          (e3 ∙ ap (λ l. l ++ c) (e2 ∙ ap (λ l. l ++ b) e1)))))) ∙ simp append_assoc)
 
 pub text_some : (s : Script) (t : Option ListRun) (setup : Setup) (r : ListRun) → s.setup ≡ Some setup → t ≡ Some r
     → report_of setup r ≡ report_text s t

@@ -5,7 +5,8 @@
 
 It was written from the rules alone, apart from the program and before it, so that what both get wrong has to be got wrong twice. It is
 slow and short: a member's store is run from a list of states, and who is answered next is searched among all connections. The rules are
-those of the public PackStream 1 and Bolt 4.4 texts and of docs/SCRIPT.md, docs/SESSIONS.md and docs/CYPHER.md.
+those of the public PackStream 1 and Bolt 4.4 texts and of docs/SCRIPT.md, docs/SESSIONS.md and docs/CYPHER.md. Driver sessions are
+in second/driver.py.
 
 Left out: clusters that are not lists, logins (nobody is configured), ids that are spent, a log that is full, the places of what a
 malformed message is ended for, want of memory, and the verbs and words that are not built yet.
@@ -15,7 +16,9 @@ import sys
 from collections import namedtuple
 
 sys.dont_write_bytecode = True
+from second import driver  # noqa: E402
 from second.statements import Fault, Parser, Step, Store, Syntax, entry_value, run, writes  # noqa: E402
+from second.driver_bytes import pack  # noqa: E402
 from second.values import (ANSWERS, DEPTH, HANDSHAKE, MAGIC, MESSAGE, REQUESTS, Malformed, bookmark,  # noqa: E402
                            chunked, covers, depth, encode, place_of, read_message)
 
@@ -305,9 +308,23 @@ class Refused(Exception):
 
 
 class Conn:
-    def __init__(self, member, session, printed):
-        self.member, self.session, self.printed = member, session, printed
+    """`opener` is the line that opened it: "open", "session" or "request". What was written to a request's is not printed."""
+
+    def __init__(self, member, session, opener):
+        self.member, self.session, self.opener = member, session, opener
         self.deadline, self.place = None, None  # of the question that waits, and of its entry
+
+
+class Client:
+    """A driver's session, and its link where there is one."""
+
+    def __init__(self, session):
+        self.session, self.until = session, None  # until: the moment at which its Sleep ends
+        self.conn, self.up, self.whole, self.down, self.shaken = None, b"", False, 0, False
+
+    def link(self, conn):
+        """`up` waits to go up, `whole` says that a request ends with it, and of `conn` so many bytes have come down."""
+        self.conn, self.up, self.whole, self.down, self.shaken = conn, b"", False, 0, False
 
 
 class World:
@@ -316,13 +333,18 @@ class World:
         self.at = {number: 0 for number in range(1, cores + replicas + 1)}
         addresses = [f"n{number}:7687" for number in self.at]
         self.addresses = addresses[:cores], addresses[cores:]
+        self.members_by_address = {address: number for number, address in enumerate(addresses, 1)}
         self.history, self.states = [], [Store(0, {})]
-        self.conns, self.told = {}, []
+        self.conns, self.told, self.clients, self.works, self.line = {}, [], {}, [], 0
 
     def event(self, line, verb, words):
         """Checks what depends on the run, moves it, and answers what can be answered."""
+        self.line = line
         getattr(self, "do_" + verb)(*words)
-        while any(self.turn(line, number, conn) for number, conn in self.conns.items()):
+        self.settle()
+
+    def settle(self):
+        while any(self.turn(number, conn) for number, conn in self.conns.items()):
             pass
 
     def known(self, member):
@@ -333,6 +355,10 @@ class World:
         if moment < self.now:
             raise Refused("time goes back")
         self.now = moment
+        for number, client in self.clients.items():
+            if client.until is not None and client.until <= moment:
+                client.until = None
+                self.give(number, "woken")
 
     def do_apply(self, member, count):
         self.known(member)
@@ -340,27 +366,33 @@ class World:
             raise Refused("wrong kind of member")
         self.at[member] = min(self.at[member] + count, len(self.history))
 
-    def do_open(self, member, printed=True):
+    def do_open(self, member, opener="open"):
         self.known(member)
         number = len(self.conns) + 1
-        self.conns[number] = Conn(member, Session(number, self.cluster, self.addresses), printed)
+        self.conns[number] = Conn(member, Session(number, self.cluster, self.addresses), opener)
         return self.conns[number].session
 
     def do_bytes(self, number, piece):
-        if number not in self.conns or not self.conns[number].printed:
+        if number not in self.conns or self.conns[number].opener != "open":
             raise Refused("no such connection")
-        if self.conns[number].session.state != ENDED:
-            self.conns[number].session.feed(piece)
+        self.say(self.conns[number].session, piece)
 
     def do_close(self, number):
         self.do_bytes(number, b"")
-        self.conns[number].session.state, self.conns[number].session.question = ENDED, None
+        self.end(self.conns[number].session)
+
+    def say(self, session, piece):
+        if session.state != ENDED:
+            session.feed(piece)
+
+    def end(self, session):
+        session.state, session.question = ENDED, None
 
     def request(self, member, query, params, bookmarks):
         """A client that says everything at once."""
         requests = [("HELLO", {}), ("RUN", query, params, {"bookmarks": bookmarks}), ("PULL", {"n": -1}), ("GOODBYE",)]
         said = b"".join(chunked(name, fields, REQUESTS) for name, *fields in requests)
-        self.do_open(member, printed=False).feed(HANDSHAKE + said)
+        self.do_open(member, "request").feed(HANDSHAKE + said)
 
     def do_put(self, member, key, value, *bookmarks):
         self.request(member, PUT, {"k": key, "v": value}, list(bookmarks))
@@ -368,7 +400,81 @@ class World:
     def do_get(self, member, key, *bookmarks):
         self.request(member, GET, {"k": key}, list(bookmarks))
 
-    def turn(self, line, number, conn):
+    # Driver sessions.
+
+    def do_session(self, seed):
+        self.clients[len(self.clients) + 1] = Client(driver.Session(self.addresses[0], seed))
+
+    def client(self, number):
+        if number not in self.clients:
+            raise Refused("no such session")
+        return self.clients[number]
+
+    def do_work(self, number, job, *words):
+        client = self.client(number)
+        if client.session.running:
+            raise Refused("work is running")
+        client.session.begin(getattr(driver, job)(*words), self.now)
+        self.make(number, client)
+
+    def give(self, number, *given):
+        """Gives a session an input, and makes its actions."""
+        self.clients[number].session.on(self.now, *given)
+        self.make(number, self.clients[number])
+
+    def make(self, number, client):
+        actions = client.session.actions
+        while actions:
+            name, *words = actions.pop(0)
+            if name == "connect":
+                client.link(self.do_open(self.members_by_address[words[0]], "session"))
+                client.session.on(self.now, "connected")
+            elif name == "send":
+                assert not client.up  # each request waits for its answer
+                client.up, client.whole, client.shaken = words[0], client.shaken, True
+            elif name == "close":
+                self.say(client.conn, client.up)
+                self.end(client.conn)
+                client.link(None)
+            elif name == "sleep":
+                client.until = words[0]
+            elif name == "finish":
+                self.works.append((self.line, number, words[0]))
+
+    def do_up(self, number, count):
+        """Whether a request became whole."""
+        client = self.client(number)
+        piece, client.up = client.up[:count], client.up[count:]
+        if piece:
+            self.say(client.conn, piece)
+        return client.whole and bool(piece) and not client.up
+
+    def do_down(self, number, count):
+        client = self.client(number)
+        piece = client.conn.out[client.down:client.down + count] if client.conn else b""
+        client.down += len(piece)
+        if piece:
+            self.give(number, "bytes", piece)
+
+    def do_pump(self, number, requests=None):
+        client = self.client(number)
+        while client.conn and (client.up or client.down < len(client.conn.out)):
+            if client.up:
+                whole = self.do_up(number, U64)
+                self.settle()
+                requests = requests and requests - whole
+                if requests == 0:
+                    return
+            self.do_down(number, U64)
+
+    def do_cut(self, number):
+        client = self.client(number)
+        if client.conn:
+            self.end(client.conn)
+            client.link(None)
+            self.give(number, "lost")
+
+    def turn(self, number, conn):
         """Answers a connection, or proposes its entry, where that can be done now."""
         question = conn.session.question
         if question is None:
@@ -377,7 +483,7 @@ class World:
             conn.deadline = min(self.now + self.wait, U64)
         fact = getattr(self, "answer_" + question[0])(conn, *question[1:])
         if isinstance(fact, tuple):
-            self.told.append((line, number, fact))
+            self.told.append((self.line, number, fact))
             conn.deadline, conn.place = None, None
             conn.session.tell(fact)
         return fact is not None
@@ -433,14 +539,22 @@ def is_word(value):
 
 
 def fact_text(fact):
-    if fact[0] != "rows":
-        return " ".join(map(str, fact))
-    rows = fact[2]
+    return f"rows {fact[1]} {rows_text(fact[2], encode)}" if fact[0] == "rows" else " ".join(map(str, fact))
+
+
+def rows_text(rows, spell):
     if not rows:
-        return f"rows {fact[1]} none"
+        return "none"
     if len(rows) == 1 and len(rows[0]) == 1 and is_word(rows[0][0]):
-        return f"rows {fact[1]} word {rows[0][0]}"
-    return f"rows {fact[1]} hex {encode(rows).hex()}"
+        return f"word {rows[0][0]}"
+    return f"hex {spell(rows).hex()}"
+
+
+def work_text(outcome):
+    if outcome[0] != "ok":
+        return " ".join(map(str, outcome))
+    _, attempts, place, _, rows = outcome
+    return f"ok {attempts} {'-' if place is None else place} {rows_text(rows, pack)}"
 
 
 def entry_text(item):
@@ -455,10 +569,11 @@ def report(world):
     lines = ["ncc-report 1"]
     if world:
         lines += [f"fact {line} {conn} {fact_text(fact)}" for line, conn, fact in world.told]
+        lines += [f"work {line} {session} {work_text(outcome)}" for line, session, outcome in world.works]
         for number, conn in world.conns.items():
             state = "waiting" if conn.session.question else ENDED if conn.session.state == ENDED else "idle"
             lines.append(f"conn {number} {conn.member} {state}")
-        lines += [f"out {number} {conn.session.out.hex() or '-'}" for number, conn in world.conns.items() if conn.printed]
+        lines += [f"out {number} {conn.session.out.hex() or '-'}" for number, conn in world.conns.items() if conn.opener != "request"]
         for number, at in world.at.items():
             role = "leader 1" if number == 1 else "follower 1" if number <= world.cores else "replica 0"
             lines.append(f"member {number} {role} {at}")
@@ -471,22 +586,24 @@ def report(world):
 
 # Scripts.
 
-FORMS = {"time": "N", "put": "MWW*", "get": "MW*", "apply": "MN", "open": "M", "bytes": "NH", "close": "N"}
+# What stands behind a verb, a letter for each word; `*` is for bookmarks.
+FORMS = {"time": ["N"], "put": ["MWW*"], "get": ["MW*"], "apply": ["MP"], "open": ["M"], "bytes": ["NH"], "close": ["N"],
+         "session": ["N"], "work": ["NaWI", "NpWW", "NgW"], "up": ["NN"], "down": ["NN"], "pump": ["N", "NP"], "cut": ["N"]}
+RANGES = {"N": (0, U64), "P": (1, U64), "M": (0, 255), "I": (-2 ** 63, 2 ** 63 - 1)}
+JOBS = {"a": b"add", "p": b"put", "g": b"get"}
 
 
 def number_of(word, least=0, greatest=U64):
-    if not re.fullmatch(rb"0|[1-9][0-9]*", word) or not least <= int(word) <= greatest:
+    if not re.fullmatch(rb"0|-?[1-9][0-9]{0,19}", word) or not least <= int(word) <= greatest:
         raise Refused("bad line")
     return int(word)
 
 
 def word_of(kind, word):
     """What a word of an event stands for, by its letter in FORMS."""
-    if kind == "N":
-        return number_of(word)
-    if kind == "M":
-        return number_of(word, 0, 255)
-    if kind == "W" and is_word(word.decode()):
+    if kind in RANGES:
+        return number_of(word, *RANGES[kind])
+    if kind == "W" and is_word(word.decode()) or JOBS.get(kind) == word:
         return word.decode()
     if kind == "H" and re.fullmatch(rb"(?:[0-9a-f]{2}){1,1048576}", word):
         return bytes.fromhex(word.decode())
@@ -508,16 +625,19 @@ def event_of(line, cluster):
         raise Refused("unknown verb")
     if verb == "cluster":
         raise Refused("bad line")
-    words, form = words_of(line)[1:], FORMS[verb].rstrip("*")
-    if len(words) < len(form) or len(words) > len(form) and "*" not in FORMS[verb]:
-        raise Refused("bad line")
-    read = [word_of(kind, word) for kind, word in zip(form, words)]
-    if verb == "apply" and read[1] == 0:
-        raise Refused("bad line")
-    bookmarks = [word.decode() for word in words[len(form):]]
-    if None in [place_of(text, cluster) for text in bookmarks]:
-        raise Refused("bad bookmark")
-    return verb, read + bookmarks
+    words, refused = words_of(line)[1:], "bad line"
+    for form in FORMS[verb]:
+        fixed = form.rstrip("*")
+        if len(words) == len(fixed) or len(words) > len(fixed) != len(form):
+            try:
+                read = [word_of(kind, word) for kind, word in zip(fixed, words)]
+            except Refused:
+                continue
+            bookmarks = [word.decode() for word in words[len(fixed):]]
+            if None not in [place_of(text, cluster) for text in bookmarks]:
+                return verb, read + bookmarks
+            refused = "bad bookmark"
+    raise Refused(refused)
 
 
 def world_of(line):

@@ -1,7 +1,8 @@
 -- The lines of a script: the one spelling of each event, as words that single spaces separate, and why a line is refused.
 use Rattle.std.specs.Prelude.{◌≡◌, ℕ, ◌+◌, ◌/◌, ◌%◌, ◌^◌, ◌<◌, ◌≤◌, ◌==◌, nat_lt, nat_le, Bool, true, false, not, ◌||◌, ◌&&◌}
 use Rattle.std.specs.Prelude.{if◌then◌else◌, List}
-use Rattle.std.specs.Prelude.{[], ◌∷◌, ◌++◌, length, map, codes, decimal}
+use Rattle.std.specs.Prelude.{[], ◌∷◌, ◌++◌, length, map, codes, decimal, ℤ, Option, Some, None}
+use Rattle.std.specs.Fmt.{signed_decimal}
 use Rattle.std.specs.List.{All, flat_map, join_with_byte, list_all, list_any, before_first}
 use Rattle.std.specs.Str.{bytes_eq}
 use Rattle.ncc_bookmark.specs.Point.{Point}
@@ -9,8 +10,11 @@ use Rattle.ncc_bookmark.specs.Spelling.{text_of}
 use Rattle.ncc_world.specs.declared.setup.Setup.{Setup}
 use Rattle.ncc_world.specs.declared.setup.Kind.TheVariants.{List as IsList}
 use Rattle.ncc_world.specs.declared.event.Event.{Event}
-use Rattle.ncc_world.specs.declared.event.Event.TheVariants.{Time, Put, Get, Apply, Open, Bytes, Close}
-use Rattle.ncc_world.specs.Events.{is_word, AreOf}
+use Rattle.ncc_world.specs.declared.event.Event.TheVariants.{Time, Put, Get, Apply, Open, Bytes, Close, Session, Work, Up, Down, Pump, Cut}
+use Rattle.ncc_world.specs.declared.event.Job.{Job}
+use Rattle.ncc_world.specs.declared.event.Job.TheVariants.{Add}
+use Rattle.ncc_world.specs.declared.event.Job.TheVariants as job
+use Rattle.ncc_world.specs.Events.{is_word, AreOf, MayBegin}
 use Rattle.ncc_world.specs.Setting.{IsSetup}
 use Rattle.ncc_replay.specs.declared.status.Cause.{Cause}
 use Rattle.ncc_replay.specs.declared.status.Cause.TheVariants.{UnknownVerb, BadLine, BadBookmark}
@@ -29,6 +33,21 @@ hex bytes = flat_map hex_byte bytes
 abbrev pub bookmark_words : List Point → List (List ℕ)
 bookmark_words bookmarks = map text_of bookmarks
 
+-- a number that may be below 0 has `-` before it where it is
+abbrev pub signed_text : ℤ → List ℕ
+signed_text n = signed_decimal n
+
+-- the words of a work
+abbrev pub job_words : Job → List (List ℕ)
+job_words (Add key by) = codes "add" ∷ key ∷ signed_text by ∷ []
+job_words (job.Put key value) = codes "put" ∷ key ∷ value ∷ []
+job_words (job.Get key) = codes "get" ∷ key ∷ []
+
+-- how many requests go up, where that is said
+abbrev pub limit_words : Option ℕ → List (List ℕ)
+limit_words None = []
+limit_words (Some requests) = decimal requests ∷ []
+
 -- the words of an event; numbers have no leading zeros
 abbrev pub words_of : Event → List (List ℕ)
 words_of (Time to) = codes "time" ∷ decimal to ∷ []
@@ -38,6 +57,17 @@ words_of (Apply member count) = codes "apply" ∷ decimal member ∷ decimal cou
 words_of (Open member) = codes "open" ∷ decimal member ∷ []
 words_of (Bytes conn bytes) = codes "bytes" ∷ decimal conn ∷ hex bytes ∷ []
 words_of (Close conn) = codes "close" ∷ decimal conn ∷ []
+words_of (Session seed) = codes "session" ∷ decimal seed ∷ []
+words_of (Work session job) = codes "work" ∷ decimal session ∷ job_words job
+words_of (Up session count) = codes "up" ∷ decimal session ∷ decimal count ∷ []
+words_of (Down session count) = codes "down" ∷ decimal session ∷ decimal count ∷ []
+words_of (Pump session requests) = codes "pump" ∷ decimal session ∷ limit_words requests
+words_of (Cut session) = codes "cut" ∷ decimal session ∷ []
+
+-- no number, or one of 64 bits that is not 0
+abbrev pub FitsLimit : Option ℕ → Type 0
+FitsLimit None = Unit {0}
+FitsLimit (Some requests) = (1 ≤ requests) × (requests < 2 ^ 64)
 
 -- an event whose numbers, words, bytes and bookmarks a line of a script can have
 abbrev pub Spellable : ℕ → Event → Type 0
@@ -50,6 +80,12 @@ Spellable cluster (Open member) = member < 2 ^ 8
 Spellable cluster (Bytes conn bytes) =
     (conn < 2 ^ 64) × (1 ≤ length bytes) × (length bytes ≤ 1_048_576) × All (λ b. b < 2 ^ 8) bytes
 Spellable cluster (Close conn) = conn < 2 ^ 64
+Spellable cluster (Session seed) = seed < 2 ^ 64
+Spellable cluster (Work session job) = (session < 2 ^ 64) × MayBegin job
+Spellable cluster (Up session count) = (session < 2 ^ 64) × (count < 2 ^ 64)
+Spellable cluster (Down session count) = (session < 2 ^ 64) × (count < 2 ^ 64)
+Spellable cluster (Pump session requests) = (session < 2 ^ 64) × FitsLimit requests
+Spellable cluster (Cut session) = session < 2 ^ 64
 
 -- in a script of this cluster the line says this event
 abbrev pub Says : ℕ → List ℕ → Event → Type 0
@@ -81,7 +117,9 @@ first_word line = before_first (λ b. b == 32) line
 
 -- the first words that a line behind the `cluster` line may have
 abbrev pub verbs : List (List ℕ)
-verbs = codes "cluster" ∷ codes "time" ∷ codes "put" ∷ codes "get" ∷ codes "apply" ∷ codes "open" ∷ codes "bytes" ∷ codes "close" ∷ []
+verbs =
+    codes "cluster" ∷ codes "time" ∷ codes "put" ∷ codes "get" ∷ codes "apply" ∷ codes "open" ∷ codes "bytes" ∷ codes "close"
+    ∷ codes "session" ∷ codes "work" ∷ codes "up" ∷ codes "down" ∷ codes "pump" ∷ codes "cut" ∷ []
 
 abbrev pub is_verb : List ℕ → Bool
 is_verb word = list_any (bytes_eq word) verbs

@@ -5,15 +5,17 @@ use Rattle.std.specs.List.{All, slice_split, list_all}
 use Rattle.ncc_bookmark.specs.Point.{Point, Fits}
 use Rattle.ncc_bookmark.specs.Spelling.{text_of}
 use Rattle.ncc_world.specs.declared.event.Event.{Event}
+use Rattle.ncc_world.specs.declared.event.Job.{Job}
 use Rattle.ncc_world.specs.declared.setup.Setup.{Setup}
 use Rattle.ncc_world.specs.declared.setup.Kind.TheVariants.{List as IsList}
-use Rattle.ncc_world.specs.Events.{AreOf}
+use Rattle.ncc_world.specs.Events.{AreOf, MayBegin}
 use Rattle.ncc_world.specs.Setting.{IsSetup}
-use Rattle.ncc_replay.specs.Line.{bookmark_words, is_bookmark_word, hex, MayPresent, Spellable, words_of, setup_words}
+use Rattle.ncc_replay.specs.Line.{bookmark_words, is_bookmark_word, hex, MayPresent, Spellable, words_of, job_words, setup_words}
 use Rattle.ncc_replay.specs.declared.status.Cause.{Cause}
 use Rattle.ncc_replay.specs.declared.status.Cause.TheVariants.{BadLine, BadBookmark}
 use Rattle.ncc_replay.specs.declared.line.Verb.{Verb}
 use Rattle.ncc_replay.specs.declared.line.Verb.TheVariants.{Cluster, Time, Put, Get, Apply, Open, Bytes, Close}
+use Rattle.ncc_replay.specs.declared.line.Verb.TheVariants.{Session, Work, Up, Down, Pump, Cut}
 
 -- what stands between the spaces of a text, of which there is always some
 abbrev pub words_between : List ℕ → List (List ℕ)
@@ -34,10 +36,20 @@ verb_word Apply = codes "apply"
 verb_word Open = codes "open"
 verb_word Bytes = codes "bytes"
 verb_word Close = codes "close"
+verb_word Session = codes "session"
+verb_word Work = codes "work"
+verb_word Up = codes "up"
+verb_word Down = codes "down"
+verb_word Pump = codes "pump"
+verb_word Cut = codes "cut"
 
 -- in a script of this cluster these are the words of this event
 abbrev pub AreWords : ℕ → List (List ℕ) → Event → Type 0
 AreWords cluster words event = Spellable cluster event × (words ≡ words_of event)
+
+-- these are the words of this work
+abbrev pub AreJob : List (List ℕ) → Job → Type 0
+AreJob words job = MayBegin job × (words ≡ job_words job)
 
 -- these are the words of a request, and others where bookmarks should stand
 pub record AreRightBut (words : List (List ℕ)) : Type 0 where

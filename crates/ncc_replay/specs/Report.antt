@@ -1,7 +1,7 @@
 -- The report of a run, as text.
 use Rattle.std.specs.Prelude.{ℕ, ◌+◌, ◌==◌, Bool, true, false, ◌&&◌, if◌then◌else◌, List, [], ◌∷◌, ◌++◌, length, map, codes, decimal}
-use Rattle.std.specs.Prelude.{Option, None, Some}
-use Rattle.std.specs.List.{flat_map, filter}
+use Rattle.std.specs.Prelude.{Option, None, Some, Result, Ok, Err, IsTrue}
+use Rattle.std.specs.List.{All, flat_map, filter}
 use Rattle.std.specs.Str.{bytes_eq}
 use Rattle.ncc_pack.specs.declared.value.Value.{Value}
 use Rattle.ncc_pack.specs.declared.value.Value.TheVariants as v
@@ -19,16 +19,24 @@ use Rattle.ncc_session.specs.declared.ask.Fact.{Fact}
 use Rattle.ncc_session.specs.declared.ask.Fact.TheVariants.{Entered, Late, Rows, Faulted, Done, Placed, Stale, Replaced, Unsure}
 use Rattle.ncc_session.specs.declared.ask.Fact.TheVariants.{Elsewhere, Full, Routed}
 use Rattle.ncc_session.specs.Question.{Row}
+use Rattle.ncc_driver.specs.declared.action.WorkDone.{WorkDone}
+use Rattle.ncc_driver.specs.declared.action.WorkError.{WorkError}
+use Rattle.ncc_driver.specs.declared.action.WorkError.TheVariants.{RetriesSpent, Refused, BadReply}
+use Rattle.ncc_driver.specs.declared.action.Last.{Last}
+use Rattle.ncc_driver.specs.declared.action.Last.TheVariants.{Code, LinkLost, NoServer}
+use Rattle.ncc_driver.specs.RowText.{text_of}
+use Rattle.ncc_driver.specs.Work.{rows_fit}
 use Rattle.ncc_clients.specs.declared.told.Told.{Told}
 use Rattle.ncc_world.specs.declared.setup.Setup.{Setup}
 use Rattle.ncc_world.specs.declared.seen.Shown.{Shown}
 use Rattle.ncc_world.specs.declared.seen.Shown.TheVariants.{Leader, Candidate, Follower, Replica, Down}
 use Rattle.ncc_world.specs.declared.seen.MemberSeen.{MemberSeen}
 use Rattle.ncc_world.specs.declared.seen.ConnSeen.{ConnSeen}
+use Rattle.ncc_world.specs.declared.seen.WorkSeen.{WorkSeen}
 use Rattle.ncc_world.specs.Events.{is_word}
 use Rattle.ncc_world.specs.Requests.{put_source}
 use Rattle.ncc_world.specs.Happening.{ListRun}
-use Rattle.ncc_world.specs.Showing.{members_of, conns_of}
+use Rattle.ncc_world.specs.Showing.{members_of, conns_of, works_of}
 use Rattle.ncc_replay.specs.Line.{hex}
 use Rattle.ncc_replay.specs.Script.{Script}
 
@@ -76,6 +84,43 @@ fact_text (Routed leader) = codes "routed" ++ spaced leader
 -- `fact LINE CONN TEXT`
 unfoldable pub fact_line : Told → List ℕ
 fact_line t = codes "fact" ++ (spaced t.line ++ (spaced t.conn ++ (codes " " ++ (fact_text t.fact ++ codes "\n"))))
+
+-- ---- works of sessions
+
+-- the place of a bookmark, or `-` where it is none of this project's
+abbrev pub bookmark_text : Option ℕ → List ℕ
+bookmark_text (Some place) = spaced place
+bookmark_text None = codes " -"
+
+-- why the last attempt failed: a code as the server told it, a lost link, or no server
+abbrev pub last_text : Last → List ℕ
+last_text (Code code) = codes " " ++ code
+last_text LinkLost = codes " lost"
+last_text (NoServer role) = codes " noserver"
+
+abbrev pub done_text : WorkDone → List ℕ
+done_text done = codes " ok" ++ (spaced done.attempts ++ (bookmark_text done.place ++ (codes " " ++ text_of done.rows)))
+
+abbrev pub error_text : WorkError → List ℕ
+error_text (RetriesSpent attempts last) = codes " spent" ++ (spaced attempts ++ last_text last)
+error_text (Refused attempts code) = codes " refused" ++ (spaced attempts ++ (codes " " ++ code))
+error_text (BadReply message) = codes " badreply" ++ spaced message
+
+abbrev pub result_text : Result WorkDone WorkError → List ℕ
+result_text (Ok done) = done_text done
+result_text (Err error) = error_text error
+
+-- `work LINE SESSION TEXT`
+unfoldable pub work_line : WorkSeen → List ℕ
+work_line w = codes "work" ++ (spaced w.line ++ (spaced w.session ++ (result_text w.result ++ codes "\n")))
+
+-- the rows of a work that was committed have a spelling
+abbrev pub result_fits : Result WorkDone WorkError → Bool
+result_fits (Ok done) = rows_fit done.rows
+result_fits (Err error) = true
+
+abbrev pub WorksFit : List WorkSeen → Type 0
+WorksFit works = All (λ (w : WorkSeen). IsTrue (result_fits w.result)) works
 
 -- ---- connections
 
@@ -156,8 +201,8 @@ history_text history = codes "history" ++ (spaced (length history) ++ (codes "\n
 
 unfoldable pub report_of : Setup → ListRun → List ℕ
 report_of s r =
-    codes "ncc-report 1\n" ++ (flat_map fact_line r.told ++ (flat_map conn_line (conns_of s r) ++ (flat_map out_line (conns_of s r)
-    ++ (flat_map member_line (members_of s r) ++ (history_text r.history ++ codes "end\n")))))
+    codes "ncc-report 1\n" ++ (flat_map fact_line r.told ++ (flat_map work_line (works_of r) ++ (flat_map conn_line (conns_of s r)
+    ++ (flat_map out_line (conns_of s r) ++ (flat_map member_line (members_of s r) ++ (history_text r.history ++ codes "end\n"))))))
 
 -- of a script that has no cluster
 abbrev pub no_report : List ℕ

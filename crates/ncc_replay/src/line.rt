@@ -15,6 +15,7 @@ ghost use Rattle.ncc_world.specs.Events.{is_word, is_word_byte};
 ghost use Rattle.ncc_world.specs.declared.event.Event.{Event};
 ghost use Rattle.ncc_world.specs.declared.setup.Setup.{Setup};
 
+use crate::session_line::{cut_link, down, pump, session, up, work};
 use crate::status::Cause;
 use itoa::Buffer;
 use ncc_bookmark::{Bookmark, BookmarkError};
@@ -44,7 +45,7 @@ impl From<AllocError> for LineError {
     }
 }
 
-const BAD_LINE: LineError = LineError::Cause(Cause::BadLine);
+pub(crate) const BAD_LINE: LineError = LineError::Cause(Cause::BadLine);
 
 // The most digits that the bytes of a line may have, two for each byte.
 const MAX_DIGITS: usize = 2_097_152;
@@ -63,6 +64,12 @@ enum Verb {
     Open,
     Bytes,
     Close,
+    Session,
+    Work,
+    Up,
+    Down,
+    Pump,
+    Cut,
 }
 
 // A line with another first word is refused before anything else is looked at.
@@ -79,6 +86,12 @@ fn verb_of(word: &[u8]) -> Option<Verb>
         b"open" => Some(Verb::Open),
         b"bytes" => Some(Verb::Bytes),
         b"close" => Some(Verb::Close),
+        b"session" => Some(Verb::Session),
+        b"work" => Some(Verb::Work),
+        b"up" => Some(Verb::Up),
+        b"down" => Some(Verb::Down),
+        b"pump" => Some(Verb::Pump),
+        b"cut" => Some(Verb::Cut),
         _ => None,
     }
 }
@@ -102,7 +115,7 @@ fn cut(line: &[u8]) -> (&[u8], Option<&[u8]>)
 }
 
 // The next word, and what follows the space behind it. `rest` is what follows the last space, if one is left.
-fn next_word(rest: Option<&[u8]>) -> Option<(&[u8], Option<&[u8]>)>
+pub(crate) fn next_word(rest: Option<&[u8]>) -> Option<(&[u8], Option<&[u8]>)>
     ensures some { IfSome result (λ r. words_in rest.entry ≡ r.0.now ∷ words_in r.1) }
     ensures none { IfNone result (words_in rest.entry ≡ []) }
 {
@@ -131,7 +144,7 @@ fn number(word: &[u8], most: u64) -> Option<u64>
     Some(n)
 }
 
-fn next_number(rest: Option<&[u8]>, most: u64) -> Option<(u64, Option<&[u8]>)>
+pub(crate) fn next_number(rest: Option<&[u8]>, most: u64) -> Option<(u64, Option<&[u8]>)>
     ensures some { IfSome result (λ r. (r.0 ≤ most) × (words_in rest.entry ≡ decimal r.0 ∷ words_in r.1)) }
     ensures none { IfNone result ((n : ℕ) (more : List (List ℕ))
         → n ≤ most → words_in rest.entry ≢ decimal n ∷ more) }
@@ -175,7 +188,7 @@ fn name(word: &[u8]) -> Option<&str>
     Some(name)
 }
 
-fn next_name(rest: Option<&[u8]>) -> Option<(&str, Option<&[u8]>)>
+pub(crate) fn next_name(rest: Option<&[u8]>) -> Option<(&str, Option<&[u8]>)>
     ensures some { IfSome result (λ r. (is_word r.0.now ≡ true) × (words_in rest.entry ≡ r.0.now ∷ words_in r.1)) }
     ensures none { IfNone result ((word : List ℕ) (more : List (List ℕ))
         → is_word word ≡ true → words_in rest.entry ≢ word ∷ more) }
@@ -444,6 +457,12 @@ fn event(alloc: Global, cluster: u64, verb: Verb, rest: Option<&[u8]>) -> Result
         Verb::Open => open(rest).ok_or(BAD_LINE),
         Verb::Bytes => bytes(alloc, cluster, rest),
         Verb::Close => close(rest).ok_or(BAD_LINE),
+        Verb::Session => session(rest).ok_or(BAD_LINE),
+        Verb::Work => work(alloc, rest),
+        Verb::Up => up(rest).ok_or(BAD_LINE),
+        Verb::Down => down(rest).ok_or(BAD_LINE),
+        Verb::Pump => pump(rest).ok_or(BAD_LINE),
+        Verb::Cut => cut_link(rest).ok_or(BAD_LINE),
     }
 }
 

@@ -9,10 +9,13 @@ mod hex;
 mod input;
 mod laws;
 mod line;
+mod number;
 mod replay;
 mod report;
 mod script;
+mod session_line;
 mod status;
+mod work_line;
 
 use crate::replay::replay;
 use crate::status::{Status, status_number, status_text};

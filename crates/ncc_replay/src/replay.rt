@@ -5,11 +5,13 @@ ghost use Rattle.std.specs.Io.KnownBytes.{Appends};
 ghost use Rattle.ncc_base.specs.Faults.{Rose};
 ghost use Rattle.ncc_base.specs.Flushing.{IsAllFlushed};
 ghost use Rattle.ncc_clients.specs.Laws.{PlacesAreApart, AllAreServed};
+ghost use Rattle.ncc_clients.specs.Reads.{SessionsReadTheirWrites};
 ghost use Rattle.ncc_world.specs.declared.error.Which.{Which as Limits};
 ghost use Rattle.ncc_world.specs.Happening.{ListRun};
 ghost use Rattle.ncc_world.specs.Headline.{MembersAgree, FactsAreLawful, AllGoOn, AfterEach};
 ghost use Rattle.ncc_world.specs.Setting.{cluster_of};
-ghost use Rattle.ncc_replay.specs.Report.{report_text};
+ghost use Rattle.ncc_world.specs.Showing.{works_of};
+ghost use Rattle.ncc_replay.specs.Report.{WorksFit, report_text};
 ghost use Rattle.ncc_replay.specs.Script.{Script, IsText, whole, refused, limited};
 ghost use Rattle.ncc_replay.specs.Progress.{IsRunOf};
 ghost use Rattle.ncc_replay.specs.Replay.{Reads, ReadsUpTo, Passes, IsGiven, OfRun, MayEnd};
@@ -38,7 +40,8 @@ fn are_run_words(words: &Words) -> bool
 
 // The report of a run, or of none.
 fn append_report(world: &Option<World>, into: &mut Bytes) -> Result<(), AllocError>
-    ensures { (s : Script) (t : Option ListRun) → IsRunOf world.now s t → OnOk result (into.new ≡ into.old ++ report_text s t) }
+    ensures { (s : Script) (t : Option ListRun) → IsRunOf world.now s t → OfRun (λ setup events run. WorksFit (works_of run)) s t →
+        OnOk result (into.new ≡ into.old ++ report_text s t) }
 {
     match world {
         Some(world) => report(world, into),
@@ -138,6 +141,9 @@ pub fn replay<S: Source, K: Sink>(
     ensures nobody_is_forgotten { result ≡ Status.Done → (s : Script) (t : Option ListRun) → Reads (S.left input.old)
         (S.left input.new) s t →
         OfRun (λ setup events run. AfterEach setup events) s t }
+    ensures sessions_read_their_writes { result ≡ Status.Done → (s : Script) (t : Option ListRun) → Reads (S.left input.old)
+        (S.left input.new) s t →
+        OfRun (λ setup events run. SessionsReadTheirWrites run) s t }
 
     // When each other answer comes.
     ensures bad_words { (result ≡ Status.BadWords) ↔ (words.now ≢ run_words) }

@@ -19,15 +19,17 @@ ghost use Rattle.ncc_world.specs.Requests.{put_source};
 ghost use Rattle.ncc_world.specs.Events.{is_word};
 ghost use Rattle.ncc_world.specs.Happening.{ListRun};
 ghost use Rattle.ncc_world.specs.Spellable.{AllAllowed, AllFit, rows_fit};
+ghost use Rattle.ncc_world.specs.Showing.{works_of};
 ghost use Rattle.ncc_world.specs.World.{Stands};
 ghost use Rattle.ncc_replay.specs.Report.{spaced, rows_text, rows_hex, fault_text, fact_text, fact_line, role_text, member_line};
 ghost use Rattle.ncc_replay.specs.Report.{conn_state, conn_line, out_text, out_line, parts_of, put_parts, entry_text, valid_text};
-ghost use Rattle.ncc_replay.specs.Report.{place_line, place_lines, history_text, report_of};
+ghost use Rattle.ncc_replay.specs.Report.{place_line, place_lines, history_text, WorksFit, report_of};
 ghost use Rattle.ncc_replay.specs.Line.{hex};
 
 use crate::hex::append_hex;
 use crate::line::is_word;
-use itoa::Buffer;
+use crate::number::append_number;
+use crate::work_line::append_works;
 use ncc_pack::{Bytes, Rows, Text, Value, Values, encode_list_head, encode_values};
 use ncc_session::Fact;
 use ncc_store::{RunFault, Step, Steps};
@@ -37,15 +39,6 @@ use std::alloc::{AllocError, Global};
 
 // The statement that `put` stands for.
 const PUT: &str = "MERGE (n:Pair {k: $k}) SET n.v = $v";
-
-// A space and the number.
-fn append_number(n: u64, into: &mut Bytes) -> Result<(), AllocError>
-    ensures { OnOk result (into.new ≡ into.old ++ spaced n) }
-{
-    let mut buffer = Buffer::new();
-    into.extend(b" ")?;
-    into.extend(buffer.format(n).as_bytes())
-}
 
 // A word and one number.
 fn append_counted(word: &[u8], n: u64, into: &mut Bytes) -> Result<(), AllocError>
@@ -464,12 +457,15 @@ fn append_history(world: &World, into: &mut Bytes) -> Result<(), AllocError>
     append_places(world, world.history().as_slice(), into)
 }
 
-/// Appends the report of the run that the world stands for. An `Err` leaves a front of it.
+/// Appends the report of the run that the world stands for, in which the rows of each work fit, as in every run from its beginning they do.
+/// An `Err` leaves a front of it.
 pub fn report(world: &World, into: &mut Bytes) -> Result<(), AllocError>
-    ensures appended { (r : ListRun) → Stands world.now r → OnOk result (into.new ≡ into.old ++ report_of world.now.setup r) }
+    ensures appended { (r : ListRun) → Stands world.now r → WorksFit (works_of r) →
+        OnOk result (into.new ≡ into.old ++ report_of world.now.setup r) }
 {
     into.extend(b"ncc-report 1\n")?;
     append_told(world.told().as_slice(), into)?;
+    append_works(world.works().as_slice(), into)?;
     append_conns(world.conns().as_slice(), into)?;
     append_outs(world.conns().as_slice(), into)?;
     append_members(world.members().as_slice(), into)?;

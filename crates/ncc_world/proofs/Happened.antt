@@ -1,13 +1,14 @@
 -- The own steps of events.
-use Rattle.std.proofs.Common.{◌≡◌, ℕ, ◌<◌, ◌≤◌, List, length, get_or, Some, Bool, true, false, cond, ◌&&◌, refl, ap, sym, ◌∙◌, inl, inr}
+use Rattle.std.proofs.Common.{◌≡◌, ℕ, ◌<◌, ◌≤◌, List, length, get_or, le-leb, Some, Bool, true, false, cond, ◌&&◌, refl, ap, sym, ◌∙◌, inl, inr}
 use Rattle.std.specs.Prelude.{slice_get, nat_le}
 use Rattle.std.proofs.lemmas.Bool.Decides.{leb_tells}
 use Rattle.std.proofs.lemmas.Option.{slice_get-get_or}
 use Rattle.ncc_clients.specs.Run.{Client, fed, closed_at}
+use Rattle.ncc_clients.specs.Drives.{feeds, feeds_one, closes_one}
 use Rattle.ncc_world.specs.declared.setup.Setup.{Setup}
 use Rattle.ncc_world.specs.declared.served.Served.{Served}
 use Rattle.ncc_world.specs.Setting.{cluster_of}
-use Rattle.ncc_world.specs.Happening.{ListRun, is_member, feeds, feeds_one, closes_one}
+use Rattle.ncc_world.specs.Happening.{ListRun, is_member}
 use Rattle.ncc_world.specs.World.{KeptRun, RunsAs}
 use Rattle.ncc_world.proofs.Proposing.{Sits, sits}
 
@@ -25,12 +26,12 @@ pub closed_now : (r : ListRun) (i : ℕ) (d : Client) → slice_get r.clients i 
 closed_now r i d e h = sym (ap (closes_one r i) e ∙ ap (λ (b : Bool). cond b r (closed_at r i d)) h)
 
 pub fed_none : (s : Setup) (r : ListRun) (i : ℕ) (piece : List ℕ) (d : Client) → slice_get r.clients i ≡ Some d → d.closed ≡ true
-    → r ≡ feeds s r i piece
-fed_none s r i piece d e h = sym (ap (feeds_one s r i piece) e ∙ ap (λ (b : Bool). cond b r (fed (cluster_of s) r i d piece)) h)
+    → r ≡ feeds (cluster_of s) r i piece
+fed_none s r i piece d e h = sym (ap (feeds_one (cluster_of s) r i piece) e ∙ ap (λ (b : Bool). cond b r (fed (cluster_of s) r i d piece)) h)
 
 pub fed_now : (s : Setup) (r : ListRun) (i : ℕ) (piece : List ℕ) (d : Client) → slice_get r.clients i ≡ Some d → d.closed ≡ false
-    → fed (cluster_of s) r i d piece ≡ feeds s r i piece
-fed_now s r i piece d e h = sym (ap (feeds_one s r i piece) e ∙ ap (λ (b : Bool). cond b r (fed (cluster_of s) r i d piece)) h)
+    → fed (cluster_of s) r i d piece ≡ feeds (cluster_of s) r i piece
+fed_now s r i piece d e h = sym (ap (feeds_one (cluster_of s) r i piece) e ∙ ap (λ (b : Bool). cond b r (fed (cluster_of s) r i d piece)) h)
 
 pub record Ends (low high n : ℕ) : Type 0 where
   pub low_is : low ≤ n
@@ -47,3 +48,7 @@ pub member_ends : (r : ListRun) (member : ℕ) → is_member r member ≡ true �
 member_ends r member e =
     let h = both (nat_le 1 member) (nat_le member (length r.members)) e in
     record { low_is = le_from 1 member h.0; high_is = le_from member (length r.members) h.1 }
+
+pub member_between : (r : ListRun) (member : ℕ) → 0 < member → member ≤ length r.members → is_member r member ≡ true
+member_between r member low high =
+    ap (λ (b : Bool). b && nat_le member (length r.members)) (le-leb 1 member low) ∙ le-leb member (length r.members) high

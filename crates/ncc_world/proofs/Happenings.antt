@@ -1,5 +1,5 @@
 -- The facts of a run: each was told at a moment of the event of its line, by a turn.
-use Rattle.std.proofs.Common.{◌≡◌, ℕ, zero, suc, ◌<◌, List, [], ◌∷◌, ◌++◌, length, take, Some, inl}
+use Rattle.std.proofs.Common.{◌≡◌, ℕ, zero, suc, ◌-◌, ◌<◌, Option, List, [], ◌∷◌, ◌++◌, length, take, Some, inl}
 use Rattle.std.proofs.Common.{inr, ◌⊎◌}
 use Rattle.std.proofs.Common.{refl, ap, sym, ◌∙◌, arith, subst, append_assoc}
 use Rattle.std.proofs.lemmas.List.{take-append-le, take_at}
@@ -11,16 +11,20 @@ use Rattle.ncc_session.specs.Question.{Question}
 use Rattle.ncc_clients.specs.declared.told.Told.{Told}
 use Rattle.ncc_clients.specs.Members.{Cluster, Proposed, elsewhere, full, placed}
 use Rattle.ncc_clients.specs.Run.{Client, Reply, waits, tells, proposes, question_of, reply, told_to, proposed}
-use Rattle.ncc_clients.specs.Turn.{Turn, Turns, Here as Ends, Then as Turning, Does}
+use Rattle.ncc_clients.specs.Turn.{Turn, Turns, Settles, Here as Ends, Then as Turning, Does}
+use Rattle.ncc_clients.specs.Drives.{driver_at, up_at, less, rises, descends, Pumps, Pumping, Rests, Stops, Lifts, Falls, Rising, Risen, Fallen}
 use Rattle.ncc_clients.specs.Moment.{Path, Here, IsOpen, Proposes}
 use Rattle.ncc_clients.specs.Laws.{IsAnswered, EachFactIsLawful}
 use Rattle.ncc_world.specs.declared.setup.Setup.{Setup}
 use Rattle.ncc_world.specs.declared.event.Event.{Event}
 use Rattle.ncc_world.specs.Setting.{Lists, cluster_of, nobody}
-use Rattle.ncc_world.specs.Happening.{ListRun, start_of, own, RunsOn, Within}
+use Rattle.ncc_world.specs.Events.{CountsSome}
+use Rattle.ncc_world.specs.Happening.{ListRun, start_of, own, Passes, Happens, RunsOn, Within}
 use Rattle.ncc_world.specs.Headline.{IsLawful, FactsAreLawful}
-use Rattle.ncc_world.proofs.Settling.{path_through, turns_more, Asking, asking, told_waits, proposed_waits}
-use Rattle.ncc_world.proofs.Moments.{Ways, own_path, own_told, runs_more, moment_from}
+use Rattle.ncc_world.proofs.Settling.{path_through, Asking, asking, told_waits, proposed_waits}
+use Rattle.ncc_world.proofs.Silent.{Leads, rises_leads, descends_leads}
+use Rattle.ncc_world.proofs.Pumping.{some_up, counts_less}
+use Rattle.ncc_world.proofs.Moments.{Ways, Kind, pumps, plain, kind_of, own_leads, runs_more, moment_from}
 
 -- a fact as it was told: all that a lawful one has, and the way from there
 record IsTold (s : Setup) (es : List (ℕ × Event)) (r : ListRun) (earlier : List Told) (t : Told) : Type 0 where
@@ -159,29 +163,69 @@ turn_told s es line m u w p h all =
 
 -- ---- turns, events, and the whole run
 
-turns_told : (s : Setup) → Ways s → (es : List (ℕ × Event)) (line : ℕ) (m u : ListRun) → Within s es line m
+-- each moment from this one on, on the way of turns
+abbrev TurnsWithin : Setup → List (ℕ × Event) → ℕ → ListRun → Type 0
+TurnsWithin s es line m = (n : ListRun) → Turns (cluster_of s) line m n → Within s es line n
+
+turns_told : (s : Setup) → Ways s → (es : List (ℕ × Event)) (line : ℕ) (m u : ListRun) → TurnsWithin s es line m
     → Turns (cluster_of s) line m u → AllTold s es m → AllTold s es u
 turns_told s ways es line m u w (Ends _) all = all
 turns_told s ways es line m u w (Turning _ n _ first rest) all =
     let C : Cluster Lists = cluster_of s in
-    let then_ : Within s es line n = record {
-      before = w.before;
-      event = w.event;
-      behind = w.behind;
-      events_are = w.events_are;
-      from = w.from;
-      ran = w.ran;
-      allowed = w.allowed;
-      turns = turns_more C line (own s w.event w.from) m n w.turns first;
-    } in
     let path : Path C m n = ways.small line m n (Turning m n n first (Ends n)) in
-    turns_told s ways es line n u then_ rest (turn_told s es line m n w path first all)
+    turns_told s ways es line n u (λ o q. w o (Turning m n o first q)) rest (turn_told s es line m n (w m (Ends m)) path first all)
+
+leads_told : (s : Setup) (es : List (ℕ × Event)) (r u : ListRun) → Leads (cluster_of s) r u → AllTold s es r → AllTold s es u
+leads_told s es r u h all = all_told_on s es r u h.path h.told all
+
+-- each moment from this one on, where all moves that waits
+abbrev PumpsWithin : Setup → List (ℕ × Event) → (line k : ℕ) → Option ℕ → ListRun → Type 0
+PumpsWithin s es line k limit r = (m : ListRun) → Pumping (cluster_of s) line k limit r m → Within s es line m
+
+module _ (s : Setup) (ways : Ways s) (es : List (ℕ × Event)) (line k : ℕ) where
+  risen_told : (limit : Option ℕ) (r t : ListRun) → (up_at (driver_at r k) ≡ [] → ⊥) → PumpsWithin s es line k limit r
+      → Settles (cluster_of s) line (rises (cluster_of s) k limit r) t → AllTold s es r → AllTold s es t
+  risen_told limit r t some w h all =
+      let C : Cluster Lists = cluster_of s in
+      let up : ListRun = rises C k limit r in
+      turns_told s ways es line up t (λ n q. w n (Rising limit r n some q)) h.turns
+      (leads_told s es r up (rises_leads C line k limit r) all)
+
+  pumps_told : (limit : Option ℕ) (r t : ListRun) → CountsSome limit → PumpsWithin s es line k limit r
+      → Pumps (cluster_of s) line k limit r t → AllTold s es r → AllTold s es t
+  pumps_told limit r _ counts w (Rests _ _ up down) all = all
+  pumps_told limit r t counts w (Stops _ _ _ reached h) all =
+      risen_told limit r t (some_up limit counts (up_at (driver_at r k)) reached) w h all
+  pumps_told limit r t counts w (Lifts _ _ m _ some more h p) all =
+      let up = up_at (driver_at r k) in
+      pumps_told (less limit up) m t (counts_less limit counts up more) (λ n q. w n (Risen limit r m n some more h q)) p
+      (risen_told limit r m some w h all)
+  pumps_told limit r t counts w (Falls _ _ _ none some p) all =
+      let C : Cluster Lists = cluster_of s in
+      let down : ListRun = descends C line k r in
+      pumps_told limit down t counts (λ n q. w n (Fallen limit r n none some q)) p
+      (leads_told s es r down (descends_leads C line k r) all)
+
+-- an event
+happens_told : (s : Setup) → Ways s → (es : List (ℕ × Event)) (line : ℕ) (event : Event) → Kind event → (r t : ListRun)
+    → ((m : ListRun) → Passes s line event r m → Within s es line m) → Happens s line event r t → AllTold s es r → AllTold s es t
+happens_told s ways es line _ (pumps session requests) r t w h all =
+    let k : ℕ = session - 1 in
+    let moved : AllTold s es h.stepped =
+    pumps_told s ways es line k requests r h.stepped h.steps.0 (λ m p. w m (h.steps.0, inl p)) h.steps.1 all in
+    turns_told s ways es line h.stepped t (λ n q. w n (h.steps.0, inr (h.stepped, h.steps.1, q))) h.settles.turns moved
+happens_told s ways es line event (plain _ same out in_) r t w h all =
+    let u : ListRun = own s line event r in
+    let moved : AllTold s es u = leads_told s es r u (own_leads s line event r h.allowed) all in
+    let settles : Turns (cluster_of s) line u t = subst (λ x. Turns (cluster_of s) line x t) (same s line r h.stepped h.steps) h.settles.turns in
+    turns_told s ways es line u t (λ n q. w n (in_ s line r n q)) settles moved
 
 runs_told : (s : Setup) → Ways s → (es before behind : List (ℕ × Event)) (r end : ListRun) → es ≡ before ++ behind
     → RunsOn s before (start_of s) r → AllTold s es r → RunsOn s behind r end → AllTold s es end
 runs_told s ways es before [] r end e ran all h = subst (λ x. AllTold s es x) h all
 runs_told s ways es before (f ∷ behind) r end e ran all h =
-    let w : Within s es f.0 (own s f.1 r) = record {
+    let w : (m : ListRun) → Passes s f.0 f.1 r m → Within s es f.0 m = λ m q.
+    record {
       before = before;
       event = f.1;
       behind = behind;
@@ -189,11 +233,9 @@ runs_told s ways es before (f ∷ behind) r end e ran all h =
       from = r;
       ran = ran;
       allowed = h.1.allowed;
-      turns = Ends (own s f.1 r);
+      passes = q;
     } in
-    let stepped : AllTold s es (own s f.1 r) =
-    all_told_on s es r (own s f.1 r) (own_path s f.1 r h.1.allowed) (own_told s f.1 r) all in
-    let settled : AllTold s es h.0 = turns_told s ways es f.0 (own s f.1 r) h.0 w h.1.settles.turns stepped in
+    let settled : AllTold s es h.0 = happens_told s ways es f.0 f.1 (kind_of f.1) r h.0 w h.1 all in
     runs_told s ways es (before ++ (f ∷ [])) behind h.0 end (e ∙ sym (append_assoc before (f ∷ []) behind))
     (runs_more s before f (start_of s) r h.0 ran h.1) settled h.2
 

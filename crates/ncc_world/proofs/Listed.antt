@@ -214,7 +214,7 @@ start_kept s h =
 
 -- ---- the four facts
 
-reached : (s : Setup) → IsSetup s → (r : ListRun) → Path (cluster_of s) (begun (nobody s)) r → Kept r
+pub reached : (s : Setup) → IsSetup s → (r : ListRun) → Path (cluster_of s) (begun (nobody s)) r → Kept r
 reached s h r p = (path_kept s (begun (nobody s)) r (start_kept s h) p).kept
 
 -- behind an accepted proposal, the history begins with the list of member 1 and the entry

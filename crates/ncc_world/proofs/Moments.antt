@@ -1,52 +1,39 @@
 -- Runs of events as paths: each event's own step and each turn is made of small things, and from each moment the run goes on to its end.
-use Rattle.std.proofs.Common.{◌≡◌, ℕ, ◌-◌, ◌<◌, ◌≤◌, ◌==◌, nat_le, Bool, true, false, cond, ◌&&◌, List, [], ◌∷◌, ◌++◌, length}
-use Rattle.std.proofs.Common.{Option, Some, None}
+use Rattle.std.proofs.Common.{◌≡◌, ℕ, ◌-◌, ◌<◌, ◌≤◌, ◌==◌, nat_le, Bool, true, false, cond, ◌&&◌, List, [], ◌∷◌, ◌++◌, length, take}
+use Rattle.std.proofs.Common.{Option, Some, None, ◌⊎◌, inl, inr}
 use Rattle.std.proofs.Common.{refl, sym, ◌∙◌, arith, subst, leb-true}
 use Rattle.std.proofs.lemmas.Bool.{eqb-false}
-use Rattle.std.specs.Prelude.{slice_get}
 use Rattle.ncc_clients.specs.Members.{Cluster}
-use Rattle.ncc_clients.specs.Run.{Client, ticked, opened, fed, closed_at}
-use Rattle.ncc_clients.specs.Turn.{Turns}
-use Rattle.ncc_clients.specs.Moment.{Ticks, Opens, Feeds, Moves, Closes, Path, Here, Then}
+use Rattle.ncc_clients.specs.Links.{lift_bytes}
+use Rattle.ncc_clients.specs.Run.{ticked, opened}
+use Rattle.ncc_clients.specs.Turn.{Turns, Settles}
+use Rattle.ncc_clients.specs.Moment.{Ticks, Opens, Moves, Path, Here}
+use Rattle.ncc_clients.specs.Drives.{driver_at, wakes_all, Pumps, Pumping}
 use Rattle.ncc_clients.specs.Laws.{TurnsAreSmall, OneWay}
 use Rattle.ncc_bolt.specs.declared.message.Request.{Request}
 use Rattle.ncc_world.specs.declared.setup.Setup.{Setup}
 use Rattle.ncc_world.specs.declared.event.Event.{Event}
-use Rattle.ncc_world.specs.declared.event.Event.TheVariants.{Time, Put, Get, Apply, Open, Bytes, Close}
+use Rattle.ncc_world.specs.declared.event.Event.TheVariants.{Time, Put, Get, Apply, Open, Bytes, Close, Session, Work, Up, Down, Pump, Cut}
 use Rattle.ncc_world.specs.declared.error.WorldError.{WorldError}
 use Rattle.ncc_world.specs.declared.error.WorldError.TheVariants.{NoMember, WrongRole}
 use Rattle.ncc_world.specs.Setting.{Lists, Applies, cluster_of, lagging}
 use Rattle.ncc_world.specs.Requests.{client_bytes, put_request, get_request}
-use Rattle.ncc_world.specs.Happening.{ListRun, start_of, unless, refusal, feeds, feeds_one, closes_one, asks, own, Happens, RunsOn, Within}
-use Rattle.ncc_world.proofs.Settling.{SameSteps, path_through, path_of, turns_on}
+use Rattle.ncc_world.specs.Happening.{ListRun, start_of, unless, refusal, config_of, meant, asks, own, Steps, Passes, Happens, RunsOn, Within}
+use Rattle.ncc_world.proofs.Settling.{SameSteps, path_through, turns_on}
+use Rattle.ncc_world.proofs.Silent.{Leads, stays, small, then_, feeds_leads, closes_leads, makes_leads, begins_leads, lifts_leads, falls_leads}
+use Rattle.ncc_world.proofs.Silent.{cuts_leads, wakes_leads}
+use Rattle.ncc_world.proofs.Pumping.{pumps_path, pumping_path, one_pump, pumping_on}
 
 -- ---- the own step of an event
 
-feeds_path_by : (s : Setup) (r : ListRun) (i : ℕ) (piece : List ℕ) (o : Option Client) → slice_get r.clients i ≡ o
-    → Path (cluster_of s) r (feeds_one s r i piece o)
-feeds_path_by s r i piece None e = Here r
-feeds_path_by s r i piece (Some c) e = go c.closed refl where
-  go : (b : Bool) → c.closed ≡ b → Path (cluster_of s) r (cond b r (fed (cluster_of s) r i c piece))
-  go true f = Here r
-  go false f = path_of (cluster_of s) r (fed (cluster_of s) r i c piece) (Feeds r i c piece (record { there = e; live = f }))
+asks_leads : (s : Setup) (r : ListRun) (member : ℕ) (request : Request) → Leads (cluster_of s) r (asks s r member request)
+asks_leads s r member request =
+    let C : Cluster Lists = cluster_of s in
+    let t : ListRun = opened r member false in
+    then_ C r t (asks s r member request) (small C r t (Opens r member false) refl)
+    (feeds_leads C t (length r.clients) (client_bytes request))
 
-feeds_path : (s : Setup) (r : ListRun) (i : ℕ) (piece : List ℕ) → Path (cluster_of s) r (feeds s r i piece)
-feeds_path s r i piece = feeds_path_by s r i piece (slice_get r.clients i) refl
-
-closes_path : (s : Setup) (r : ListRun) (i : ℕ) (o : Option Client) → slice_get r.clients i ≡ o
-    → Path (cluster_of s) r (closes_one r i o)
-closes_path s r i None e = Here r
-closes_path s r i (Some c) e = go c.closed refl where
-  go : (b : Bool) → c.closed ≡ b → Path (cluster_of s) r (cond b r (closed_at r i c))
-  go true f = Here r
-  go false f = path_of (cluster_of s) r (closed_at r i c) (Closes r i c (record { there = e; live = f }))
-
-asks_path : (s : Setup) (r : ListRun) (member : ℕ) (request : Request) → Path (cluster_of s) r (asks s r member request)
-asks_path s r member request =
-    Then r (opened r member false) (asks s r member request) (Opens r member false)
-    (feeds_path s (opened r member false) (length r.clients) (client_bytes request))
-
-not_refused : (b : Bool) (error : WorldError) → unless b error ≡ None → b ≡ true
+pub not_refused : (b : Bool) (error : WorldError) → unless b error ≡ None → b ≡ true
 not_refused true error e = refl
 not_refused false error e = absurd (cc)
 
@@ -71,57 +58,95 @@ lags r member count e = go (nat_le 1 member) (nat_le member (length r.members)) 
   go true false f g e = absurd (cc)
   go true true f g e = there f g (member == 1) refl e
 
-pub own_path : (s : Setup) (event : Event) (r : ListRun) → refusal r event ≡ None → Path (cluster_of s) r (own s event r)
-unfolding own
-own_path s (Time to) r e =
-    path_of (cluster_of s) r (ticked r to) (Ticks r to (leb-true r.now to (not_refused (nat_le r.now to) _ e)))
-own_path s (Put member key value bookmarks) r e = asks_path s r member (put_request key value bookmarks)
-own_path s (Get member key bookmarks) r e = asks_path s r member (get_request key bookmarks)
-own_path s (Apply member count) r e =
+pub lags_at : (r : ListRun) (member count : ℕ) → refusal r (Apply member count) ≡ None → Applies r.members (lagging r.members member count)
+lags_at r member count e =
     let l : Lags r member = lags r member count e in
-    let a : Applies r.members (lagging r.members member count) =
-    record { member = member; count = count; follows = l.follows; there = l.there; same = refl } in
-    path_of (cluster_of s) r (own s (Apply member count) r) (Moves r (lagging r.members member count) a)
-own_path s (Open member) r e = path_of (cluster_of s) r (opened r member true) (Opens r member true)
-own_path s (Bytes conn bytes) r e = feeds_path s r (conn - 1) bytes
-own_path s (Close conn) r e = closes_path s r (conn - 1) (slice_get r.clients (conn - 1)) refl
+    record { member = member; count = count; follows = l.follows; there = l.there; same = refl }
 
--- what was told before is told
-fed_told : (s : Setup) (r : ListRun) (i : ℕ) (piece : List ℕ) (o : Option Client) → (feeds_one s r i piece o).told ≡ r.told
-fed_told s r i piece None = refl
-fed_told s r i piece (Some c) = go c.closed where
-  go : (b : Bool) → (cond b r (fed (cluster_of s) r i c piece)).told ≡ r.told
-  go true = refl
-  go false = refl
-
-closed_told : (r : ListRun) (i : ℕ) (o : Option Client) → (closes_one r i o).told ≡ r.told
-closed_told r i None = refl
-closed_told r i (Some c) = go c.closed where
-  go : (b : Bool) → (cond b r (closed_at r i c)).told ≡ r.told
-  go true = refl
-  go false = refl
-
-asked_told : (s : Setup) (r : ListRun) (member : ℕ) (request : Request) → (asks s r member request).told ≡ r.told
-asked_told s r member request =
-    fed_told s (opened r member false) (length r.clients) (client_bytes request)
-    (slice_get (opened r member false).clients (length r.clients))
-
-pub own_told : (s : Setup) (event : Event) (r : ListRun) → (own s event r).told ≡ r.told
+pub own_leads : (s : Setup) (line : ℕ) (event : Event) (r : ListRun) → refusal r event ≡ None
+    → Leads (cluster_of s) r (own s line event r)
 unfolding own
-own_told s (Time to) r = refl
-own_told s (Put member key value bookmarks) r = asked_told s r member (put_request key value bookmarks)
-own_told s (Get member key bookmarks) r = asked_told s r member (get_request key bookmarks)
-own_told s (Apply member count) r = refl
-own_told s (Open member) r = refl
-own_told s (Bytes conn bytes) r = fed_told s r (conn - 1) bytes (slice_get r.clients (conn - 1))
-own_told s (Close conn) r = closed_told r (conn - 1) (slice_get r.clients (conn - 1))
+own_leads s line (Time to) r e =
+    let C : Cluster Lists = cluster_of s in
+    let t : ListRun = ticked r to in
+    then_ C r t (wakes_all C line t) (small C r t (Ticks r to (leb-true r.now to (not_refused (nat_le r.now to) _ e))) refl)
+    (wakes_leads C line t)
+own_leads s line (Put member key value bookmarks) r e = asks_leads s r member (put_request key value bookmarks)
+own_leads s line (Get member key bookmarks) r e = asks_leads s r member (get_request key bookmarks)
+own_leads s line (Apply member count) r e =
+    small (cluster_of s) r (own s line (Apply member count) r)
+    (Moves r (lagging r.members member count) (lags_at r member count e)) refl
+own_leads s line (Open member) r e = small (cluster_of s) r (opened r member true) (Opens r member true) refl
+own_leads s line (Bytes conn bytes) r e = feeds_leads (cluster_of s) r (conn - 1) bytes
+own_leads s line (Close conn) r e = closes_leads (cluster_of s) r (conn - 1)
+own_leads s line (Session seed) r e = makes_leads (cluster_of s) r (config_of s seed)
+own_leads s line (Work session job) r e = begins_leads (cluster_of s) line (session - 1) r (meant job)
+own_leads s line (Up session count) r e =
+    lifts_leads (cluster_of s) (session - 1) r (lift_bytes count) (driver_at r (session - 1))
+own_leads s line (Down session count) r e =
+    falls_leads (cluster_of s) line (session - 1) r (take count) (driver_at r (session - 1))
+own_leads s line (Pump session requests) r e = stays (cluster_of s) r
+own_leads s line (Cut session) r e = cuts_leads (cluster_of s) line (session - 1) r (driver_at r (session - 1))
+
+-- ---- what an event does before its turns
+
+-- All that moves at once is one kind of event; of every other one its own step is all.
+pub data Kind : Event → Type 0 where
+  pumps : (session : ℕ) (requests : Option ℕ) → Kind (Pump session requests)
+  plain : (event : Event) → ((s : Setup) (line : ℕ) (r t : ListRun) → Steps s line event r t → t ≡ own s line event r)
+      → ((s : Setup) (line : ℕ) (r m : ListRun) → Passes s line event r m → Turns (cluster_of s) line (own s line event r) m)
+      → ((s : Setup) (line : ℕ) (r m : ListRun) → Turns (cluster_of s) line (own s line event r) m → Passes s line event r m)
+      → Kind event
+
+pub kind_of : (event : Event) → Kind event
+kind_of (Time to) = plain (Time to) (λ s line r t h. h) (λ s line r m h. h) (λ s line r m h. h)
+kind_of (Put member key value bookmarks) =
+    plain (Put member key value bookmarks) (λ s line r t h. h) (λ s line r m h. h) (λ s line r m h. h)
+kind_of (Get member key bookmarks) = plain (Get member key bookmarks) (λ s line r t h. h) (λ s line r m h. h) (λ s line r m h. h)
+kind_of (Apply member count) = plain (Apply member count) (λ s line r t h. h) (λ s line r m h. h) (λ s line r m h. h)
+kind_of (Open member) = plain (Open member) (λ s line r t h. h) (λ s line r m h. h) (λ s line r m h. h)
+kind_of (Bytes conn bytes) = plain (Bytes conn bytes) (λ s line r t h. h) (λ s line r m h. h) (λ s line r m h. h)
+kind_of (Close conn) = plain (Close conn) (λ s line r t h. h) (λ s line r m h. h) (λ s line r m h. h)
+kind_of (Session seed) = plain (Session seed) (λ s line r t h. h) (λ s line r m h. h) (λ s line r m h. h)
+kind_of (Work session job) = plain (Work session job) (λ s line r t h. h) (λ s line r m h. h) (λ s line r m h. h)
+kind_of (Up session count) = plain (Up session count) (λ s line r t h. h) (λ s line r m h. h) (λ s line r m h. h)
+kind_of (Down session count) = plain (Down session count) (λ s line r t h. h.1) (λ s line r m h. h) (λ s line r m h. h)
+kind_of (Pump session requests) = pumps session requests
+kind_of (Cut session) = plain (Cut session) (λ s line r t h. h) (λ s line r m h. h) (λ s line r m h. h)
+
+steps_path : (s : Setup) → TurnsAreSmall (cluster_of s) → (line : ℕ) (event : Event) → Kind event → (r t : ListRun)
+    → refusal r event ≡ None → Steps s line event r t → Path (cluster_of s) r t
+steps_path s small_ line _ (pumps session requests) r t e h = pumps_path (cluster_of s) small_ line (session - 1) requests r t h.1
+steps_path s small_ line event (plain _ same out in_) r t e h =
+    subst (λ u. Path (cluster_of s) r u) (sym (same s line r t h)) (own_leads s line event r e).path
+
+one_step : (s : Setup) → OneWay (cluster_of s) → TurnsAreSmall (cluster_of s) → (line : ℕ) (event : Event) → Kind event → (r t u : ListRun)
+    → Steps s line event r t → Steps s line event r u → t ≡ u
+one_step s way small_ line _ (pumps session requests) r t u h g =
+    one_pump (cluster_of s) small_ line (session - 1) way requests r t u h.0 h.1 g.1
+one_step s way small_ line event (plain _ same out in_) r t u h g = same s line r t h ∙ sym (same s line r u g)
+
+passes_path : (s : Setup) → TurnsAreSmall (cluster_of s) → (line : ℕ) (event : Event) → Kind event → (r m : ListRun)
+    → refusal r event ≡ None → Passes s line event r m → Path (cluster_of s) r m
+passes_path s small_ line _ (pumps session requests) r m e h = go h.1 where
+  C : Cluster Lists
+  C = cluster_of s
+
+  go : Pumping C line (session - 1) requests r m
+      ⊎ ((stepped : ListRun) × Pumps C line (session - 1) requests r stepped × Turns C line stepped m) → Path C r m
+  go (inl p) = pumping_path C small_ line (session - 1) requests r m p
+  go (inr g) = path_through C r g.0 m (pumps_path C small_ line (session - 1) requests r g.0 g.1) (small_ line g.0 m g.2)
+passes_path s small_ line event (plain _ same out in_) r m e h =
+    path_through (cluster_of s) r (own s line event r) m (own_leads s line event r e).path
+    (small_ line (own s line event r) m (out s line r m h))
 
 -- ---- events
 
 pub happens_path : (s : Setup) → TurnsAreSmall (cluster_of s) → (line : ℕ) (event : Event) (r t : ListRun)
     → Happens s line event r t → Path (cluster_of s) r t
-happens_path s small line event r t h =
-    path_through (cluster_of s) r (own s event r) t (own_path s event r h.allowed) (small line (own s event r) t h.settles.turns)
+happens_path s small_ line event r t h =
+    path_through (cluster_of s) r h.stepped t (steps_path s small_ line event (kind_of event) r h.stepped h.allowed h.steps)
+    (small_ line h.stepped t h.settles.turns)
 
 pub runs_path : (s : Setup) → TurnsAreSmall (cluster_of s) → (es : List (ℕ × Event)) (r t : ListRun) → RunsOn s es r t
     → Path (cluster_of s) r t
@@ -148,13 +173,6 @@ runs_split s (e ∷ before) behind r t h =
     let b : Between s before behind h.0 t = runs_split s before behind h.0 t h.2 in
     record { between = b.between; first = (h.0, h.1, b.first); rest = b.rest }
 
--- there is one run of some events
-pub one_run : (s : Setup) → OneWay (cluster_of s) → (es : List (ℕ × Event)) (r t u : ListRun) → RunsOn s es r t → RunsOn s es r u → t ≡ u
-one_run s way [] r t u h g = sym h ∙ g
-one_run s way (e ∷ es) r t u h g =
-    let same : g.0 ≡ h.0 = way e.0 (own s e.1 r) g.0 h.0 g.1.settles h.1.settles in
-    one_run s way es h.0 t u h.2 (subst (λ m. RunsOn s es m u) same g.2)
-
 -- ---- moments
 
 -- what the run of events of a cluster stands on
@@ -163,25 +181,59 @@ pub record Ways (s : Setup) : Type 0 where
   pub one_way : OneWay (cluster_of s)
   pub same_steps : SameSteps
 
+one_happens : (s : Setup) → Ways s → (line : ℕ) (event : Event) (r t u : ListRun) → Happens s line event r t → Happens s line event r u → t ≡ u
+one_happens s w line event r t u h g =
+    let same : g.stepped ≡ h.stepped = one_step s w.one_way w.small line event (kind_of event) r g.stepped h.stepped g.steps h.steps in
+    w.one_way line h.stepped t u h.settles (subst (λ x. Settles (cluster_of s) line x u) same g.settles)
+
+-- there is one run of some events
+pub one_run : (s : Setup) → Ways s → (es : List (ℕ × Event)) (r t u : ListRun) → RunsOn s es r t → RunsOn s es r u → t ≡ u
+one_run s w [] r t u h g = sym h ∙ g
+one_run s w (e ∷ es) r t u h g =
+    let same : g.0 ≡ h.0 = one_happens s w e.0 e.1 r g.0 h.0 g.1 h.1 in
+    one_run s w es h.0 t u h.2 (subst (λ m. RunsOn s es m u) same g.2)
+
+-- from each moment of an event it goes on to its end
+passes_on : (s : Setup) → Ways s → (line : ℕ) (event : Event) → Kind event → (r m : ListRun) (t : ListRun) → Passes s line event r m
+    → Happens s line event r t → Path (cluster_of s) m t
+passes_on s w line _ (pumps session requests) r m t h g = go h.1 where
+  C : Cluster Lists
+  C = cluster_of s
+
+  k : ℕ
+  k = session - 1
+
+  rest : Path C g.stepped t
+  rest = w.small line g.stepped t g.settles.turns
+
+  go : Pumping C line k requests r m ⊎ ((stepped : ListRun) × Pumps C line k requests r stepped × Turns C line stepped m) → Path C m t
+  go (inl p) =
+      path_through C m g.stepped t
+      (pumping_on C w.small line k w.one_way w.same_steps requests r m g.stepped g.steps.0 p g.steps.1) rest
+  go (inr p) =
+      let same : p.0 ≡ g.stepped = one_pump C w.small line k w.one_way requests r p.0 g.stepped h.0 p.1 g.steps.1 in
+      let turns : Turns C line g.stepped m = subst (λ x. Turns C line x m) same p.2 in
+      w.small line m t (turns_on w.same_steps C line g.stepped m t turns g.settles.turns g.settles.rests)
+passes_on s w line event (plain _ same out in_) r m t h g =
+    let C : Cluster Lists = cluster_of s in
+    let turns : Turns C line g.stepped m = subst (λ x. Turns C line x m) (sym (same s line r g.stepped g.steps)) (out s line r m h) in
+    w.small line m t (turns_on w.same_steps C line g.stepped m t turns g.settles.turns g.settles.rests)
+
 pub moment_from : (s : Setup) → Ways s → (es : List (ℕ × Event)) (line : ℕ) (m : ListRun) → Within s es line m
     → Path (cluster_of s) (start_of s) m
 moment_from s w es line m h =
-    let C : Cluster Lists = cluster_of s in
-    path_through C (start_of s) h.from m (runs_path s w.small h.before (start_of s) h.from h.ran)
-    (path_through C h.from (own s h.event h.from) m (own_path s h.event h.from h.allowed)
-    (w.small line (own s h.event h.from) m h.turns))
+    path_through (cluster_of s) (start_of s) h.from m (runs_path s w.small h.before (start_of s) h.from h.ran)
+    (passes_path s w.small line h.event (kind_of h.event) h.from m h.allowed h.passes)
 
 pub moment_to : (s : Setup) → Ways s → (es : List (ℕ × Event)) (line : ℕ) (m end : ListRun) → Within s es line m
     → RunsOn s es (start_of s) end → Path (cluster_of s) m end
 moment_to s w es line m end h ran =
-    let C : Cluster Lists = cluster_of s in
     let whole : RunsOn s (h.before ++ ((line, h.event) ∷ h.behind)) (start_of s) end =
     subst (λ xs. RunsOn s xs (start_of s) end) h.events_are ran in
     let b : Between s h.before ((line, h.event) ∷ h.behind) (start_of s) end =
     runs_split s h.before ((line, h.event) ∷ h.behind) (start_of s) end whole in
-    let same : b.between ≡ h.from = one_run s w.one_way h.before (start_of s) b.between h.from b.first h.ran in
+    let same : b.between ≡ h.from = one_run s w h.before (start_of s) b.between h.from b.first h.ran in
     let rest : RunsOn s ((line, h.event) ∷ h.behind) h.from end =
     subst (λ x. RunsOn s ((line, h.event) ∷ h.behind) x end) same b.rest in
-    let on : Turns C line m rest.0 =
-    turns_on w.same_steps C line (own s h.event h.from) m rest.0 h.turns rest.1.settles.turns rest.1.settles.rests in
-    path_through C m rest.0 end (w.small line m rest.0 on) (runs_path s w.small h.behind rest.0 end rest.2)
+    path_through (cluster_of s) m rest.0 end (passes_on s w line h.event (kind_of h.event) h.from m rest.0 h.passes rest.1)
+    (runs_path s w.small h.behind rest.0 end rest.2)

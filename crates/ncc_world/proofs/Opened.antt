@@ -1,13 +1,13 @@
 -- Which connections an open made.
 use Rattle.std.proofs.Common.{◌≡◌, ◌⊎◌, inl, inr, ℕ, zero, suc, ◌-◌, ◌<◌, ◌≤◌, List, [], ◌∷◌, length, get_or, None, Bool, true, false, refl, ap, sym, ◌∙◌, arith}
-use Rattle.std.specs.Prelude.{slice_get, nat_le, ◌&&◌}
+use Rattle.std.specs.Prelude.{slice_get, nat_le, not, ◌&&◌}
 use Rattle.std.proofs.lemmas.Bool.Decides.{leb_tells}
 use Rattle.ncc_clients.specs.Run.{Client}
 use Rattle.ncc_world.specs.declared.setup.Setup.{Setup}
 use Rattle.ncc_world.specs.declared.error.WorldError.{WorldError}
 use Rattle.ncc_world.specs.declared.seen.ConnSeen.{ConnSeen}
 use Rattle.ncc_world.specs.declared.served.Served.{Served}
-use Rattle.ncc_world.specs.Happening.{ListRun, is_printed, is_open_made, unless}
+use Rattle.ncc_world.specs.Happening.{ListRun, is_printed, is_linked, is_open_made, unless}
 use Rattle.ncc_world.specs.World.{AreClients, KeptRun, RunsAs}
 
 -- what the connections show of that
@@ -42,20 +42,29 @@ pub made_not : (s : Setup) (w : KeptRun) (r : ListRun) (conn : ℕ) → RunsAs s
     → (conn ≡ 0) ⊎ (length w.clients.seen ≤ conn - 1) → false ≡ is_open_made r conn
 made_not s w r zero k h = refl
 made_not s w r (suc n) k (inl e) = absurd (omega (arith, e))
-made_not s w r (suc n) k (inr l) = none_at s w.clients.table w.clients.seen r.clients (suc n - 1) k.clients.each l
-    ∙ guarded (suc n) (is_printed (slice_get r.clients (suc n - 1))) (omega arith)
+made_not s w r (suc n) k (inr l) =
+    let apart : Bool = not (is_linked r (suc n)) in
+    ap (λ (b : Bool). b && apart) (none_at s w.clients.table w.clients.seen r.clients (suc n - 1) k.clients.each l)
+    ∙ guarded (suc n) (is_printed (slice_get r.clients (suc n - 1)) && apart) (omega arith)
 
--- one of these
-pub made_there : (s : Setup) (w : KeptRun) (r : ListRun) (conn : ℕ) (d : ConnSeen) → RunsAs s w r → 0 < conn
-    → conn - 1 < length w.clients.seen → (get_or w.clients.seen (conn - 1) d).printed ≡ is_open_made r conn
-made_there s w r conn d k h l = printed_at s w.clients.table w.clients.seen r.clients (conn - 1) d k.clients.each l
-    ∙ guarded conn (is_printed (slice_get r.clients (conn - 1))) h
+-- one of these, by what it shows and whether a session made it
+pub made_there : (s : Setup) (w : KeptRun) (r : ListRun) (conn : ℕ) (d : ConnSeen) (printed linked : Bool) → RunsAs s w r → 0 < conn
+    → conn - 1 < length w.clients.seen → (get_or w.clients.seen (conn - 1) d).printed ≡ printed → linked ≡ is_linked r conn
+    → (printed && not linked) ≡ is_open_made r conn
+made_there s w r conn d printed linked k h l e f =
+    let shown : Bool = is_printed (slice_get r.clients (conn - 1)) in
+    ap (λ (b : Bool). b && not linked) (sym e ∙ printed_at s w.clients.table w.clients.seen r.clients (conn - 1) d k.clients.each l)
+    ∙ ap (λ (b : Bool). shown && not b) f ∙ guarded conn (shown && not (is_linked r conn)) h
 
 -- ---- where an event is not refused
 
 and_right : (a b : Bool) → (a && b) ≡ true → b ≡ true
 and_right true b e = e
 and_right false b e = absurd (cc)
+
+and_left : (a b : Bool) → (a && b) ≡ true → a ≡ true
+and_left true b e = refl
+and_left false b e = absurd (cc)
 
 printed_within : (cs : List Client) (i : ℕ) → is_printed (slice_get cs i) ≡ true → i < length cs
 printed_within [] i e = absurd (cc)
@@ -64,7 +73,10 @@ printed_within (c ∷ cs) (suc i) e = omega (arith, printed_within cs i e)
 
 -- a connection that an open made is there
 pub made_within : (r : ListRun) (conn : ℕ) → is_open_made r conn ≡ true → conn - 1 < length r.clients
-made_within r conn e = printed_within r.clients (conn - 1) (and_right (nat_le 1 conn) (is_printed (slice_get r.clients (conn - 1))) e)
+made_within r conn e =
+    let printed : Bool = is_printed (slice_get r.clients (conn - 1)) in
+    let apart : Bool = not (is_linked r conn) in
+    printed_within r.clients (conn - 1) (and_left printed apart (and_right (nat_le 1 conn) (printed && apart) e))
 
 pub allowed_by : (b : Bool) (error : WorldError) → unless b error ≡ None → b ≡ true
 allowed_by true error e = refl

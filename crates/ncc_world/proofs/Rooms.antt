@@ -1,5 +1,6 @@
 -- Who waits at a member, where one connection now waits otherwise.
-use Rattle.std.proofs.Common.{◌≡◌, ◌≢◌, inl, inr, ℕ, zero, suc, ◌+◌, ◌<◌, ◌≤◌, List, [], ◌∷◌, ◌++◌, Option, None, Some, Bool, true, false, cond, not, ◌||◌}
+use Rattle.std.proofs.Common.{◌≡◌, ◌≢◌, inl, inr, ℕ, zero, suc, ◌+◌, ◌<◌, ◌≤◌, List, [], ◌∷◌, ◌++◌, Option}
+use Rattle.std.proofs.Common.{None, Some, Bool, true, false, cond, not, ◌||◌}
 use Rattle.std.proofs.Common.{refl, ap, sym, ◌∙◌, subst, arith, length, get_or}
 use Rattle.std.specs.Prelude.{slice_get, slice_set, nat_eq, nat_lt, ◌==◌}
 use Rattle.std.specs.List.{AllByRecursion}
@@ -44,28 +45,28 @@ abbrev pub IsOf : ℕ → Option Parked → Type 0
 IsOf n None = Unit {0}
 IsOf n (Some p) = p.conn ≡ n
 
-kept_test : (b : Bool) (p : Parked) (rest rest_is : List Parked) → b ≡ false → rest ≡ rest_is
+pub kept_test : (b : Bool) (p : Parked) (rest rest_is : List Parked) → b ≡ false → rest ≡ rest_is
     → cond (not b) (p ∷ rest) rest ≡ p ∷ rest_is
 kept_test true p rest rest_is e h = absurd (cc)
 kept_test false p rest rest_is e h = ap (λ x. p ∷ x) h
 
-without_above : (n : ℕ) (ps : List Parked) → AllByRecursion (Above n) ps → without n ps ≡ ps
+pub without_above : (n : ℕ) (ps : List Parked) → AllByRecursion (Above n) ps → without n ps ≡ ps
 without_above n [] h = refl
 without_above n (p ∷ ps) h =
     kept_test (nat_eq p.conn n) p (without n ps) ps (eq_no p.conn n (λ e. absurd (omega (arith, h.0, e)))) (without_above n ps h.1)
 
-put_above : (p : Parked) (ps : List Parked) → AllByRecursion (Above p.conn) ps → put p ps ≡ p ∷ ps
+pub put_above : (p : Parked) (ps : List Parked) → AllByRecursion (Above p.conn) ps → put p ps ≡ p ∷ ps
 unfolding put
 put_above p [] h = refl
 put_above p (q ∷ qs) h = ap (λ (b : Bool). cond b (p ∷ q ∷ qs) (q ∷ put p qs)) (lt_yes p.conn q.conn h.0)
 
-without_front : (n : ℕ) (ps rest : List Parked) → AllByRecursion (Below n) ps → without n (ps ++ rest) ≡ ps ++ without n rest
+pub without_front : (n : ℕ) (ps rest : List Parked) → AllByRecursion (Below n) ps → without n (ps ++ rest) ≡ ps ++ without n rest
 without_front n [] rest h = refl
 without_front n (p ∷ ps) rest h =
     kept_test (nat_eq p.conn n) p (without n (ps ++ rest)) (ps ++ without n rest)
     (eq_no p.conn n (λ e. absurd (omega (arith, h.0, e)))) (without_front n ps rest h.1)
 
-put_front : (p : Parked) (ps rest : List Parked) → AllByRecursion (Below p.conn) ps → put p (ps ++ rest) ≡ ps ++ put p rest
+pub put_front : (p : Parked) (ps rest : List Parked) → AllByRecursion (Below p.conn) ps → put p (ps ++ rest) ≡ ps ++ put p rest
 unfolding put
 put_front p [] rest h = refl
 put_front p (q ∷ qs) rest h =

@@ -3,11 +3,12 @@ use Rattle.std.proofs.Common.{ℕ, List, [], ◌∷◌, refl, subst}
 use Rattle.ncc_clients.specs.Turn.{AtRest}
 use Rattle.ncc_clients.specs.Four.{Four}
 use Rattle.ncc_clients.specs.Laws.{AllIsKept, RestForgetsNobody, TurnsAreSmall, OneWay, Promise}
+use Rattle.ncc_clients.specs.Reads.{SessionsReadTheirWrites}
 use Rattle.ncc_world.specs.declared.setup.Setup.{Setup}
 use Rattle.ncc_world.specs.declared.event.Event.{Event}
-use Rattle.ncc_world.specs.Setting.{cluster_of, nobody}
+use Rattle.ncc_world.specs.Setting.{IsSetup, cluster_of, nobody}
 use Rattle.ncc_world.specs.Happening.{ListRun, start_of, RunsOn}
-use Rattle.ncc_world.specs.Headline.{EveryRunKeeps, OneRun}
+use Rattle.ncc_world.specs.Headline.{AllMayHappen, EveryRunKeeps, OneRun}
 use Rattle.ncc_world.proofs.Listed.{list_keeps_four}
 use Rattle.ncc_world.proofs.Settling.{SameSteps}
 use Rattle.ncc_world.proofs.Moments.{Ways, runs_path, one_run, moment_from, moment_to}
@@ -20,6 +21,8 @@ pub record Clients (s : Setup) : Type 0 where
   pub turns_are_small : TurnsAreSmall (cluster_of s)
   pub one_way : OneWay (cluster_of s)
   pub same_steps : SameSteps
+  pub sessions_read : IsSetup s → (es : List (ℕ × Event)) (end : ListRun) → AllMayHappen s es → RunsOn s es (start_of s) end
+      → SessionsReadTheirWrites end
 
 ways_of : (s : Setup) → Clients s → Ways s
 ways_of s c = record { small = c.turns_are_small; one_way = c.one_way; same_steps = c.same_steps }
@@ -44,7 +47,8 @@ every_run_keeps clients s es end setup ran =
       nobody_vanishes = λ line r h. promise.nobody_vanishes r (moment_from s w es line r h) (moment_to s w es line r end h ran);
       nobody_is_forgotten = λ before behind r e h.
           c.rest_forgets_nobody (nobody s) r four (runs_path s w.small before (start_of s) r h) (rests s before (start_of s) r refl h);
+      sessions_read_their_writes = λ may. c.sessions_read setup es end may ran;
     }
 
 pub one_run_of_each : ((s : Setup) → Clients s) → OneRun
-one_run_of_each clients s es r t u h g = one_run s (clients s).one_way es r t u h g
+one_run_of_each clients s es r t u h g = one_run s (ways_of s (clients s)) es r t u h g

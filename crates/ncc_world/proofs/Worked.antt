@@ -1,9 +1,10 @@
 -- Worked cases: what proposing, applying, refusing and waiting come to.
 use Rattle.std.proofs.Common.{◌≡◌, ℕ, zero, suc, ◌+◌, ◌-◌, ◌<◌, ◌≤◌, nat_le, nat_lt, Bool, true, false, cond, ◌&&◌, List, [], ◌∷◌, ◌++◌}
-use Rattle.std.proofs.Common.{length}
-use Rattle.std.proofs.Common.{Some, None, refl, ap, ◌∙◌, arith, subst, le-leb, lt-ltb, le-ltb}
+use Rattle.std.proofs.Common.{length, take, not, ◌==◌, ◌||◌, Option}
+use Rattle.std.proofs.Common.{Some, None, refl, ap, ◌∙◌, arith, subst, le-leb, lt-ltb, le-ltb, eq-eqb}
 use Rattle.std.proofs.lemmas.Bool.{lt-leb}
 use Rattle.std.specs.Prelude.{slice_get, slice_set, replicate}
+use Rattle.std.specs.List.{Contains, list_any}
 use Rattle.ncc_tx.specs.declared.entry.Entry.{Entry}
 use Rattle.ncc_bolt.specs.declared.message.Request.{Request}
 use Rattle.ncc_session.specs.Question.{enter}
@@ -17,7 +18,10 @@ use Rattle.ncc_world.specs.declared.event.Event.TheVariants as event
 use Rattle.ncc_world.specs.declared.error.WorldError.TheVariants as error
 use Rattle.ncc_world.specs.Setting.{IsSetup, Lists, cluster_of, nobody, list_at, appended}
 use Rattle.ncc_world.specs.Requests.{client_bytes}
-use Rattle.ncc_world.specs.Happening.{ListRun, unless, is_printed, is_open_made, refusal, feeds_one, own, asks}
+use Rattle.ncc_clients.specs.Links.{Link, Linked, Driver, lift_bytes}
+use Rattle.ncc_clients.specs.Drives.{feeds_one, driver_at, is_busy, lifts, lifts_by, falls, falls_by, cuts, cuts_by, up_at, down_at, waits_above, Rests}
+use Rattle.ncc_world.specs.declared.event.Job.{Job}
+use Rattle.ncc_world.specs.Happening.{ListRun, unless, is_printed, is_linked, is_open_made, is_session, is_busy_at, refusal, own, asks, Steps}
 
 -- ---- members
 
@@ -85,7 +89,7 @@ not_printed s r member request =
     let then_ : slice_get (slice_set (r.clients ++ (c ∷ [])) (length r.clients) new) (length r.clients) ≡ Some new =
     get_set (r.clients ++ (c ∷ [])) (length r.clients) c new there in
     let fed_is : asks s r member request ≡ fed (cluster_of s) (opened r member false) (length r.clients) c (client_bytes request) =
-    ap (feeds_one s (opened r member false) (length r.clients) (client_bytes request)) there in
+    ap (feeds_one (cluster_of s) (opened r member false) (length r.clients) (client_bytes request)) there in
     ap (λ (x : ListRun). is_printed (slice_get x.clients (length r.clients))) fed_is ∙ ap is_printed then_
 
 pub unnamed : (s : Setup) (r : ListRun) (member : ℕ) (request : Request) (bytes : List ℕ)
@@ -93,17 +97,110 @@ pub unnamed : (s : Setup) (r : ListRun) (member : ℕ) (request : Request) (byte
 unnamed s r member request bytes =
     let index : length r.clients ≡ length r.clients + 1 - 1 = omega arith in
     let low : nat_le 1 (length r.clients + 1) ≡ true = le-leb 1 (length r.clients + 1) (omega arith) in
-    let not : is_printed (slice_get (asks s r member request).clients (length r.clients + 1 - 1)) ≡ false =
-    subst (λ i. is_printed (slice_get (asks s r member request).clients i) ≡ false) index (not_printed s r member request) in
-    let made : is_open_made (asks s r member request) (length r.clients + 1) ≡ false =
-    ap (λ b. b && is_printed (slice_get (asks s r member request).clients (length r.clients + 1 - 1))) low ∙ not in
+    let t : ListRun = asks s r member request in
+    let conn : ℕ = length r.clients + 1 in
+    let unseen : is_printed (slice_get t.clients (conn - 1)) ≡ false =
+    subst (λ i. is_printed (slice_get t.clients i) ≡ false) index (not_printed s r member request) in
+    let made : is_open_made t conn ≡ false =
+    ap (λ b. b && (is_printed (slice_get t.clients (conn - 1)) && not (is_linked t conn))) low
+    ∙ ap (λ b. b && not (is_linked t conn)) unseen in
     ap (λ b. unless b error.NoConn) made
 
-pub closed_stays : (s : Setup) (r : ListRun) (conn : ℕ) (c : Client) (bytes : List ℕ) → slice_get r.clients (conn - 1) ≡ Some c
-    → c.closed ≡ true → own s (event.Bytes conn bytes) r ≡ r
+pub closed_stays : (s : Setup) (line : ℕ) (r : ListRun) (conn : ℕ) (c : Client) (bytes : List ℕ) → slice_get r.clients (conn - 1) ≡ Some c
+    → c.closed ≡ true → own s line (event.Bytes conn bytes) r ≡ r
 unfolding own
-closed_stays s r conn c bytes e f =
-    ap (feeds_one s r (conn - 1) bytes) e ∙ ap (λ b. cond b r (fed (cluster_of s) r (conn - 1) c bytes)) f
+closed_stays s line r conn c bytes e f =
+    ap (feeds_one (cluster_of s) r (conn - 1) bytes) e ∙ ap (λ b. cond b r (fed (cluster_of s) r (conn - 1) c bytes)) f
+
+-- ---- sessions
+
+-- nobody else sends on the connection of a session
+any_is : (conn : ℕ) (ls : List Linked) (l : Linked) → Contains ls l → l.conn ≡ conn
+    → list_any (λ (x : Linked). x.conn == conn) ls ≡ true
+any_is conn [] l (n, lt, g) e = absurd (omega (arith, lt))
+any_is conn (x ∷ xs) l (zero, lt, g) e =
+    let one : (x.conn == conn) ≡ true = eq-eqb x.conn conn (ap (λ (y : Linked). y.conn) g ∙ e) in
+    ap (λ b. b || list_any (λ (y : Linked). y.conn == conn) xs) one
+any_is conn (x ∷ xs) l (suc n, lt, g) e = or_true (x.conn == conn) _ (any_is conn xs l (n, omega (arith, lt), g) e) where
+  or_true : (a b : Bool) → b ≡ true → (a || b) ≡ true
+  or_true true b h = refl
+  or_true false b h = h
+
+pub links_are_apart : (r : ListRun) (l : Linked) (bytes : List ℕ) → Contains r.driving.linked l
+    → refusal r (event.Bytes l.conn bytes) ≡ Some error.NoConn
+links_are_apart r l bytes has =
+    let there : is_linked r l.conn ≡ true = any_is l.conn r.driving.linked l has refl in
+    ap (λ b. unless b error.NoConn)
+    (ap (λ b. nat_le 1 l.conn && (is_printed (slice_get r.clients (l.conn - 1)) && not b)) there
+    ∙ none (nat_le 1 l.conn) (is_printed (slice_get r.clients (l.conn - 1))))
+  where
+    none : (a b : Bool) → (a && (b && false)) ≡ false
+    none true true = refl
+    none true false = refl
+    none false b = refl
+
+not_there : (r : ListRun) → is_session r (length r.driving.drivers + 1) ≡ false
+not_there r =
+    let n : ℕ = length r.driving.drivers in
+    ap (λ b. b && nat_le (n + 1) n) (le-leb 1 (n + 1) (omega arith)) ∙ lt-leb (n + 1) n (omega arith)
+
+pub no_session : (r : ListRun) → refusal r (event.Cut (length r.driving.drivers + 1)) ≡ Some error.NoSession
+no_session r = ap (λ b. unless b error.NoSession) (not_there r)
+
+pub busy_session : (r : ListRun) (session : ℕ) (d : Driver) (job : Job) → 1 ≤ session → driver_at r (session - 1) ≡ Some d
+    → is_busy d ≡ true → refusal r (event.Work session job) ≡ Some error.Busy
+busy_session r session d job low there busy =
+    let high : session ≤ length r.driving.drivers = omega (arith, low, within r.driving.drivers (session - 1) d there) in
+    let is : is_session r session ≡ true =
+    ap (λ b. b && nat_le session (length r.driving.drivers)) (le-leb 1 session low)
+    ∙ le-leb session (length r.driving.drivers) high in
+    let works : is_busy_at r session ≡ true = ap busy_by there ∙ busy in
+    ap (λ b. cond b (unless (not (is_busy_at r session)) error.Busy) (Some error.NoSession)) is
+    ∙ ap (λ b. unless (not b) error.Busy) works
+  where
+    busy_by : Option Driver → Bool
+    busy_by o = elim o [ Some d ↦ is_busy d | None ↦ false ]
+
+    within : {X : Type 0} (xs : List X) (i : ℕ) (x : X) → slice_get xs i ≡ Some x → i < length xs
+    within [] i x e = absurd (cc)
+    within (y ∷ ys) zero x e = omega arith
+    within (y ∷ ys) (suc i) x e = omega (arith, within ys i x e)
+
+-- without a link nothing moves
+module _ (s : Setup) (line : ℕ) (r : ListRun) (session : ℕ) (d : Driver) (there : driver_at r (session - 1) ≡ Some d)
+    (none : d.link ≡ None) where
+  pub nothing_up : (count : ℕ) → own s line (event.Up session count) r ≡ r
+  unfolding own
+  nothing_up count =
+      let C = cluster_of s in
+      ap (λ (o : Option Driver). lifts C (session - 1) r o (lift_bytes count)) there
+      ∙ ap (λ (o : Option Link). lifts_by C (session - 1) r d o (lift_bytes count)) none
+
+  pub nothing_down : (count : ℕ) → own s line (event.Down session count) r ≡ r
+  unfolding own
+  nothing_down count =
+      let C = cluster_of s in
+      ap (λ (o : Option Driver). falls C line (session - 1) r o (take count)) there
+      ∙ ap (λ (o : Option Link). falls_by C line (session - 1) r d o (take count)) none
+
+  pub nothing_cut : own s line (event.Cut session) r ≡ r
+  unfolding own
+  nothing_cut =
+      let C = cluster_of s in
+      ap (λ (o : Option Driver). cuts C line (session - 1) r o) there
+      ∙ ap (λ (o : Option Link). cuts_by C line (session - 1) r d o) none
+
+  pub nothing_pumped : Steps s line (event.Pump session None) r r
+  nothing_pumped =
+      let C = cluster_of s in
+      let up : up_at (driver_at r (session - 1)) ≡ [] =
+      ap up_at there ∙ ap (λ (o : Option Link). elim o [ Some link ↦ link.up | None ↦ [] ]) none in
+      let down : down_at C r (driver_at r (session - 1)) ≡ [] =
+      ap (down_at C r) there ∙ ap (λ (o : Option Link). elim o [ Some link ↦ waits_above C r link | None ↦ [] ]) none in
+      (tt, Rests None r up down, tt)
+
+pub none_counted : (s : Setup) (line session : ℕ) (r t : ListRun) → Steps s line (event.Pump session (Some 0)) r t → ⊥
+none_counted s line session r t h = omega (arith, h.0)
 
 -- ---- waits
 

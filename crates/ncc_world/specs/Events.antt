@@ -1,9 +1,13 @@
 -- Which events a world takes, and whose events they are refused as.
-use Rattle.std.specs.Prelude.{◌≡◌, ℕ, ◌≤◌, ◌==◌, nat_le, Bool, true, ◌||◌, ◌&&◌, List, length}
+use Rattle.std.specs.Prelude.{◌≡◌, ℕ, ◌≤◌, ◌==◌, nat_le, Bool, true, ◌||◌, ◌&&◌, List, length, Option, Some, None}
 use Rattle.std.specs.List.{All, list_all}
+use Rattle.ncc_pack.specs.Fits.{fits_i64}
 use Rattle.ncc_bookmark.specs.Point.{Point, Fits}
 use Rattle.ncc_world.specs.declared.event.Event.{Event}
-use Rattle.ncc_world.specs.declared.event.Event.TheVariants.{Time, Put, Get, Apply, Open, Bytes, Close}
+use Rattle.ncc_world.specs.declared.event.Event.TheVariants.{Time, Put, Get, Apply, Open, Bytes, Close, Session, Work, Up, Down, Pump, Cut}
+use Rattle.ncc_world.specs.declared.event.Job.{Job}
+use Rattle.ncc_world.specs.declared.event.Job.TheVariants.{Add}
+use Rattle.ncc_world.specs.declared.event.Job.TheVariants as job
 
 -- a letter, a digit, `_` or `-`
 abbrev pub is_word_byte : ℕ → Bool
@@ -21,6 +25,17 @@ AreOf cluster bookmarks = All (λ b. Fits b × (b.cluster ≡ cluster)) bookmark
 abbrev pub AreFew : List Point → Type 0
 AreFew bookmarks = length bookmarks ≤ 16_777_216
 
+-- a work's keys and values are words, and what it adds has 64 bits
+abbrev pub MayBegin : Job → Type 0
+MayBegin (Add key by) = (is_word key ≡ true) × (fits_i64 by ≡ true)
+MayBegin (job.Put key value) = (is_word key ≡ true) × (is_word value ≡ true)
+MayBegin (job.Get key) = is_word key ≡ true
+
+-- where requests are counted that move, there are some
+abbrev pub CountsSome : Option ℕ → Type 0
+CountsSome None = Unit {0}
+CountsSome (Some requests) = 1 ≤ requests
+
 -- what a world is asked for: keys and values are words, bookmarks are of its cluster, and bytes are some, as many as a message may have
 abbrev pub MayHappen : ℕ → Event → Type 0
 MayHappen cluster (Time to) = Unit {0}
@@ -31,3 +46,9 @@ MayHappen cluster (Apply member count) = 1 ≤ count
 MayHappen cluster (Open member) = Unit {0}
 MayHappen cluster (Bytes conn bytes) = (1 ≤ length bytes) × (length bytes ≤ 1_048_576)
 MayHappen cluster (Close conn) = Unit {0}
+MayHappen cluster (Session seed) = Unit {0}
+MayHappen cluster (Work session job) = MayBegin job
+MayHappen cluster (Up session count) = Unit {0}
+MayHappen cluster (Down session count) = Unit {0}
+MayHappen cluster (Pump session requests) = CountsSome requests
+MayHappen cluster (Cut session) = Unit {0}

@@ -9,8 +9,10 @@ use Rattle.ncc_clients.specs.Moment.{IsOpen}
 use Rattle.ncc_clients.specs.Four.{Begins, Four}
 use Rattle.ncc_clients.specs.Lawful.{Lawful}
 use Rattle.ncc_clients.specs.Laws.{IsAnswered, PlacesAreApart, AllAreServed, NobodyVanishes}
+use Rattle.ncc_clients.specs.Reads.{SessionsReadTheirWrites}
 use Rattle.ncc_world.specs.declared.setup.Setup.{Setup}
 use Rattle.ncc_world.specs.declared.event.Event.{Event}
+use Rattle.ncc_world.specs.Events.{MayHappen}
 use Rattle.ncc_world.specs.Setting.{IsSetup, cluster_of, nobody}
 use Rattle.ncc_world.specs.Happening.{ListRun, start_of, RunsOn, Within}
 
@@ -48,6 +50,10 @@ AfterEach s es =
     (before behind : List (ℕ × Event)) (r : ListRun) → es ≡ before ++ behind → RunsOn s before (start_of s) r
     → NobodyIsForgotten (cluster_of s) r
 
+-- each event is one that a world takes
+abbrev pub AllMayHappen : Setup → List (ℕ × Event) → Type 0
+AllMayHappen s es = AllByRecursion (λ (e : ℕ × Event). MayHappen s.cluster e.1) es
+
 -- all of it
 pub record Headline (s : Setup) (es : List (ℕ × Event)) (end : ListRun) : Type 0 where
   pub members_agree : MembersAgree s es end
@@ -56,6 +62,7 @@ pub record Headline (s : Setup) (es : List (ℕ × Event)) (end : ListRun) : Typ
   pub all_are_served : AllAreServed (cluster_of s) end
   pub nobody_vanishes : AllGoOn s es end
   pub nobody_is_forgotten : AfterEach s es
+  pub sessions_read_their_writes : AllMayHappen s es → SessionsReadTheirWrites end
 
 -- the four facts that clients rest on hold of members over one list
 abbrev pub ListKeepsFour : Type 0

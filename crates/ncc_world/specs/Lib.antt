@@ -5,6 +5,7 @@ pub mod Spellable
 pub mod Happening
 pub mod Showing
 pub mod Earlier
+pub mod Drivers
 pub mod World
 pub mod Parts
 pub mod Inner

@@ -1,6 +1,6 @@
 -- What the parts of a world do. No public clause speaks of it.
-use Rattle.std.specs.Prelude.{◌≡◌, ℕ, ◌+◌, ◌*◌, ◌<◌, Bool, true, false, if◌then◌else◌, ◌==◌, not, nat_lt, List, [], ◌∷◌, map, Option}
-use Rattle.std.specs.Prelude.{Some, None, IsTrue, is_some, ◌++◌, Result, IfOk, slice_get}
+use Rattle.std.specs.Prelude.{◌≡◌, ℕ, ◌+◌, ◌-◌, ◌*◌, ◌<◌, Bool, true, false, if◌then◌else◌, ◌==◌, not, nat_lt, List, [], ◌∷◌, map, length, Option}
+use Rattle.std.specs.Prelude.{Some, None, IsTrue, is_some, ◌++◌, Result, IfOk, slice_get, nat_le}
 use Rattle.std.specs.List.{sum_by}
 use Rattle.indexmap.specs.IndexMap.{keys, values}
 use Rattle.indexmap.specs.IndexSet.{IndexSet, keys as set_keys}
@@ -19,10 +19,14 @@ use Rattle.ncc_session.specs.Talk.{Talk, asked, fits_at, measure}
 use Rattle.ncc_clients.specs.Members.{Proposed, elsewhere, full, placed}
 use Rattle.ncc_clients.specs.Run.{Client, Placing, Reply, waits, tells, proposes, with_bytes, with_fact, with_placing, deadline_of}
 use Rattle.ncc_clients.specs.Run.{question_of, last_rows}
+use Rattle.ncc_clients.specs.Links.{Driver}
+use Rattle.ncc_clients.specs.Drives.{Pumps, driver_at, feeds_some, with_driver}
+use Rattle.ncc_clients.specs.Held.{own}
+use Rattle.ncc_driver.specs.declared.action.Action.{Action}
 use Rattle.ncc_tx.specs.declared.entry.Item.{Item}
 use Rattle.ncc_session.specs.Question.{Question, Row}
 use Rattle.ncc_clients.specs.Four.{Begins}
-use Rattle.ncc_clients.specs.Turn.{Turn, AtRest, Does, IsEntryOf, acts}
+use Rattle.ncc_clients.specs.Turn.{Settles, Turn, AtRest, Does, IsEntryOf, acts}
 use Rattle.ncc_world.specs.declared.setup.Setup.{Setup}
 use Rattle.ncc_world.specs.declared.served.Place.{Place}
 use Rattle.ncc_world.specs.declared.served.Served.{Served}
@@ -35,10 +39,12 @@ use Rattle.ncc_world.specs.declared.clients.Clients.{Clients}
 use Rattle.ncc_world.specs.declared.answer.Reply as declared
 use Rattle.ncc_world.specs.declared.answer.Reply.TheVariants as answer
 use Rattle.ncc_world.specs.declared.running.Running.{Running}
+use Rattle.ncc_world.specs.declared.drivers.Drivers.{Drivers}
 use Rattle.ncc_world.specs.Setting.{Lists, cluster_of, list_at}
 use Rattle.ncc_world.specs.Earlier.{LeftBy, LeftFor, Remembers}
 use Rattle.ncc_world.specs.declared.earlier.Earlier.{Earlier}
-use Rattle.ncc_world.specs.Happening.{ListRun}
+use Rattle.ncc_world.specs.Drivers.{KeptDrivers, AreAtWork, IsAwake}
+use Rattle.ncc_world.specs.Happening.{ListRun, ComesAsBytes}
 use Rattle.ncc_world.specs.World.{KeptMembers, KeptClients, KeptRun, AreMembers, AreServed, RunsAs, placing_of}
 
 abbrev pub members_in : Members → KeptMembers
@@ -207,3 +213,113 @@ DoesTo s line r index c reply k = (t : ListRun) × Does (cluster_of s) line r in
 abbrev pub TurnBy : Setup → ℕ → ListRun → KeptRun → Bool → Type 0
 TurnBy s line r k true = (t : ListRun) × Turn (cluster_of s) line r t × RunsAs s k t
 TurnBy s line r k false = AtRest (cluster_of s) r × RunsAs s k r
+
+-- ---- sessions of drivers
+
+abbrev pub drivers_in : Drivers → KeptDrivers
+drivers_in d = record {
+  list = d.list.items;
+  names = d.names;
+  sleepers = d.sleepers;
+  linked = set_keys d.linked;
+  works = d.works;
+}
+
+-- It stands for a run with its sessions, where the one at an index still has these actions to do, and those of these numbers are still to
+-- be woken.
+pub record RunsMid (s : Setup) (at : ℕ) (left : List Action) (pending : List ℕ) (w : Running) (r : ListRun) : Type 0 where
+  pub runs_as : RunsAs s (run_in w) r
+  pub drives : AreAtWork s at left pending (drivers_in w.drivers) r.now r.driving
+  pub members : length r.members ≡ s.cores + s.replicas
+  pub awake : IsAwake (at + 1) pending
+
+-- It stands for a run with its sessions.
+abbrev pub RunsAll : Setup → Running → ListRun → Type 0
+RunsAll s w r = RunsMid s 0 [] [] w r
+
+-- It stands for a run of which the sessions of these numbers are still to be woken.
+abbrev pub RunsDue : Setup → List ℕ → Running → ListRun → Type 0
+RunsDue s pending w r = RunsAs s (run_in w) r × AreAtWork s 0 [] pending (drivers_in w.drivers) r.now r.driving × (length r.members ≡ s.cores + s.replicas)
+
+-- the first of these has this number, and there is such a session
+pub record HasDue (s : Setup) (number : ℕ) (w : Running) : Type 0 where
+  pub run : ListRun
+  pub pending : List ℕ
+  pub awake : IsAwake number pending
+  pub runs : RunsDue s (number ∷ pending) w run
+  pub some : 0 < number
+  pub driver : Driver
+  pub there : driver_at run (number - 1) ≡ Some driver
+
+pub record HasAll (s : Setup) (w : Running) : Type 0 where
+  pub run : ListRun
+  pub runs_all : RunsAll s w run
+
+-- In the middle of what the session at an index does; there is such a session.
+pub record HasMid (s : Setup) (at : ℕ) (w : Running) : Type 0 where
+  pub run : ListRun
+  pub left : List Action
+  pub pending : List ℕ
+  pub runs_mid : RunsMid s at left pending w run
+  pub driver : Driver
+  pub there : driver_at run at ≡ Some driver
+
+-- the same where it has all done
+pub record HasDone (s : Setup) (at : ℕ) (w : Running) : Type 0 where
+  pub run : ListRun
+  pub pending : List ℕ
+  pub runs_mid : RunsMid s at [] pending w run
+  pub driver : Driver
+  pub there : driver_at run at ≡ Some driver
+
+-- Each run that it stood for in the middle of what the session at an index does is made another of.
+abbrev pub MakesOf : Setup → ℕ → Running → Running → (ListRun → Driver → ListRun) → Type 0
+MakesOf s at old new makes =
+    (r : ListRun) (d : Driver) (pending : List ℕ) → driver_at r at ≡ Some d → RunsMid s at [] pending old r
+    → RunsMid s at [] pending new (makes r d)
+
+-- Whatever its sessions are in the middle of, each run is made another of, and they stay in the middle of that.
+abbrev pub GoesOn : Setup → Running → Running → (ListRun → ListRun) → Type 0
+GoesOn s old new makes =
+    (at : ℕ) (left : List Action) (pending : List ℕ) (r : ListRun) → RunsMid s at left pending old r → RunsMid s at left pending new (makes r)
+
+-- the same where those are answered who can be
+abbrev pub SettlesOn : Setup → ℕ → Running → Running → Type 0
+SettlesOn s line old new =
+    (at : ℕ) (left : List Action) (pending : List ℕ) (r : ListRun) → RunsMid s at left pending old r
+    → (t : ListRun) × Settles (cluster_of s) line r t × RunsMid s at left pending new t
+
+-- so many sessions as before
+abbrev pub SameCount : Running → Running → Type 0
+SameCount old new = length new.drivers.list.items ≡ length old.drivers.list.items
+
+-- the session at an index with what an action does at its own link done
+abbrev pub with_own : ListRun → ℕ → Driver → Action → ListRun
+with_own r at d action = with_driver r at (own d action)
+
+-- all bytes of the session's link moved, and what came down were bytes
+abbrev pub PumpsOn : Setup → ℕ → ℕ → Option ℕ → ListRun → ListRun → Type 0
+PumpsOn s line at limit r t = (moves : Pumps (cluster_of s) line at limit r t) × ComesAsBytes s line at limit r t moves
+
+-- these bytes of the session's link go up, where there are some
+abbrev pub rises_some : Setup → ListRun → Option Driver → List ℕ → ListRun
+rises_some s r None bytes = r
+rises_some s r (Some d) bytes = elim d.link [ Some link ↦ feeds_some (cluster_of s) r (link.conn - 1) bytes | None ↦ r ]
+
+abbrev pub RisesOn : Setup → ℕ → List ℕ → Running → Running → Type 0
+RisesOn s at bytes old new =
+    (r : ListRun) (pending : List ℕ) → RunsMid s at [] pending old r
+    → RunsMid s at [] pending new (rises_some s r (driver_at r at) bytes)
+
+-- how many more requests may go up behind so many that went up; none where the last did
+abbrev pub left_after : Option ℕ → ℕ → Option (Option ℕ)
+left_after None waiting = Some None
+left_after (Some count) waiting = if nat_le count waiting then None else Some (Some (count - waiting))
+
+-- One move of a pump: the last request that may go up went up and was answered, or nothing was left to move; or there is more to move, and
+-- all that waited went up and was answered, or all that was written came down.
+abbrev pub MovesOnce : Setup → ℕ → ℕ → Option ℕ → ListRun → Option (Option ℕ) → Running → Type 0
+MovesOnce s line at limit r None new =
+    (t : ListRun) × PumpsOn s line at limit r t × RunsAll s new t
+MovesOnce s line at limit r (Some next) new =
+    (m : ListRun) × ((t : ListRun) → PumpsOn s line at next m t → PumpsOn s line at limit r t) × RunsAll s new m

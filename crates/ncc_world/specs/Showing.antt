@@ -1,12 +1,14 @@
 -- What a run shows of its members and connections.
 use Rattle.std.specs.Prelude.{ℕ, ◌+◌, nat_le, ◌==◌, if◌then◌else◌, List, [], ◌∷◌, length, map, is_some}
 use Rattle.ncc_tx.specs.declared.entry.Item.{Item}
+use Rattle.ncc_clients.specs.Links.{Ended}
 use Rattle.ncc_clients.specs.Run.{Client, out_of, question_of, has_ended}
 use Rattle.ncc_world.specs.declared.setup.Setup.{Setup}
 use Rattle.ncc_world.specs.declared.seen.Shown.TheVariants.{Leader, Follower, Replica}
 use Rattle.ncc_world.specs.declared.seen.MemberSeen.{MemberSeen}
 use Rattle.ncc_world.specs.declared.seen.ConnSeen.{ConnSeen}
 use Rattle.ncc_world.specs.Setting.{Lists, cluster_of}
+use Rattle.ncc_world.specs.declared.seen.WorkSeen.{WorkSeen}
 use Rattle.ncc_world.specs.Happening.{ListRun}
 
 -- over one list core 1 leads in term 1, the other cores follow, and replicas have term 0
@@ -36,3 +38,10 @@ conn_seen s c = record {
 
 abbrev pub conns_of : Setup → ListRun → List ConnSeen
 conns_of s r = map (conn_seen s) r.clients
+
+-- a work that ended: sessions are numbered from 1
+abbrev pub work_seen : Ended → WorkSeen
+work_seen e = record { line = e.line; session = e.session + 1; result = e.result }
+
+abbrev pub works_of : ListRun → List WorkSeen
+works_of r = map work_seen r.driving.ended

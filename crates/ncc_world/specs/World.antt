@@ -23,6 +23,7 @@ use Rattle.ncc_world.specs.Setting.{Lists, cluster_of, list_at}
 use Rattle.ncc_world.specs.Happening.{ListRun}
 use Rattle.ncc_world.specs.Showing.{members_from, conn_seen}
 use Rattle.ncc_world.specs.Earlier.{AllRemember}
+use Rattle.ncc_world.specs.Drivers.{KeptDrivers, AreAtWork}
 
 -- it goes on; or a limit was passed, or memory was wanting, and it answers so from then on
 pub data Standing : Type 0 where
@@ -176,10 +177,13 @@ pub record Kept : Type 0 where
   pub setup : Setup
   pub standing : Standing
   pub run : KeptRun
+  pub drivers : KeptDrivers
 
 pub record Stands (w : Kept) (r : ListRun) : Type 0 where
   pub goes_on : w.standing ≡ alive
   pub runs_as : RunsAs w.setup w.run r
+  pub drives : AreAtWork w.setup 0 [] [] w.drivers r.now r.driving
+  pub members : length r.members ≡ w.setup.cores + w.setup.replicas
 
 -- an error that refuses an event
 abbrev pub is_refusal : WorldError → Bool

@@ -24,7 +24,7 @@ fn address(alloc: Global, member: u8) -> Result<Value, Memory>
 
 // The addresses of so many members from this one on.
 #[tactic(auto, using(crate::proofs::Addresses::addresses_more), unfolding(ncc_clients::specs::Members::addresses))]
-fn addresses(alloc: Global, count: u8, first: u8) -> Result<Values, Memory>
+pub(crate) fn addresses(alloc: Global, count: u8, first: u8) -> Result<Values, Memory>
     requires few { first + count ≤ 255 }
     ensures { IfOk result (λ all. all ≡ addresses count first) }
 {

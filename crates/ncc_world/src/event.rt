@@ -6,7 +6,18 @@ use ncc_pack::{Bytes, Sequence, Text};
 /// The bookmarks that a request presents. A contract sees the list of the places that they name.
 pub type Bookmarks = Sequence<Bookmark>;
 
-/// One event. Members and connections are numbered from 1, moments are in milliseconds.
+/// A work of a session.
+#[derive(Drop)]
+pub enum Job {
+    /// Adds to a counter.
+    Add { key: Text, by: i64 },
+    /// Sets the value of a pair.
+    Put { key: Text, value: Text },
+    /// Reads the value of a pair.
+    Get { key: Text },
+}
+
+/// One event. Members, connections and sessions are numbered from 1, moments are in milliseconds.
 #[derive(Drop)]
 pub enum Event {
     /// The clock shows this moment.
@@ -43,5 +54,33 @@ pub enum Event {
     /// A client closes its connection.
     Close {
         conn: u64,
+    },
+    /// A session of a driver is made, whose routers are all cores. It logs in nowhere, and has no bookmarks.
+    Session {
+        seed: u64,
+    },
+    /// A session begins a work.
+    Work {
+        session: u64,
+        job: Job,
+    },
+    /// At most so many bytes of a session's link go up.
+    Up {
+        session: u64,
+        bytes: u64,
+    },
+    /// At most so many bytes of a session's link come down.
+    Down {
+        session: u64,
+        bytes: u64,
+    },
+    /// All bytes of a session's link move, until none is left, or until so many requests have gone up.
+    Pump {
+        session: u64,
+        requests: Option<u64>,
+    },
+    /// A session's link is lost.
+    Cut {
+        session: u64,
     },
 }

@@ -1,7 +1,7 @@
 //! What holds of every run.
 
 ghost use Rattle.ncc_world.specs.Headline.{EveryRunKeeps, ListKeepsFour, OneRun};
-ghost use Rattle.std.specs.Prelude.{◌≡◌, ℕ, ◌+◌, ◌-◌, ◌<◌, ◌≤◌, true, List, [], ◌∷◌, length, slice_get, Some, None, IsTrue};
+ghost use Rattle.std.specs.Prelude.{◌≡◌, ℕ, ◌+◌, ◌-◌, ◌<◌, ◌≤◌, true, List, [], ◌∷◌, ◌++◌, length, slice_get, Some, None, IsTrue};
 ghost use Rattle.ncc_tx.specs.declared.entry.Entry.{Entry};
 ghost use Rattle.ncc_tx.specs.declared.entry.Item.{Item};
 ghost use Rattle.ncc_bookmark.specs.Point.{Point};
@@ -18,7 +18,11 @@ ghost use Rattle.ncc_world.specs.declared.error.WorldError.TheVariants as error;
 ghost use Rattle.ncc_world.specs.Setting.{IsSetup, Lists, cluster_of, nobody, list_at, appended, lagging};
 ghost use Rattle.ncc_world.specs.Events.{AreFew, is_word};
 ghost use Rattle.ncc_world.specs.Requests.{get_request, pull, put_request};
-ghost use Rattle.ncc_world.specs.Happening.{ListRun, refusal, own, asks};
+ghost use Rattle.ncc_world.specs.Happening.{ListRun, Steps, refusal, own, asks, config_of};
+ghost use Rattle.ncc_clients.specs.Links.{Linked, Driver};
+ghost use Rattle.ncc_clients.specs.Drives.{driver_at, is_busy, new_driver};
+ghost use Rattle.ncc_world.specs.declared.event.Job.{Job};
+ghost use Rattle.std.specs.List.{Contains};
 
 /// Members over one list keep what their clients rest on.
 pub fn list_keeps_four()
@@ -63,8 +67,29 @@ pub fn worked_events()
     ensures nobody { (r : ListRun) (count : ℕ) → refusal r (event.Apply 0 count) ≡ Some error.NoMember }
     ensures unnamed { (s : Setup) (r : ListRun) (member : ℕ) (request : Request) (bytes : List ℕ)
         → refusal (asks s r member request) (event.Bytes (length r.clients + 1) bytes) ≡ Some error.NoConn }
-    ensures closed { (s : Setup) (r : ListRun) (conn : ℕ) (c : Client) (bytes : List ℕ) → slice_get r.clients (conn - 1) ≡ Some c
-        → c.closed ≡ true → own s (event.Bytes conn bytes) r ≡ r }
+    ensures closed { (s : Setup) (line : ℕ) (r : ListRun) (conn : ℕ) (c : Client) (bytes : List ℕ) → slice_get r.clients (conn - 1) ≡ Some c
+        → c.closed ≡ true → own s line (event.Bytes conn bytes) r ≡ r }
+{}
+
+/// Worked cases of sessions: there is none past the last; one in which a work runs begins none; nobody else sends on its link's
+/// connection; without a link nothing moves and nothing is lost; and a pump counts one request at least, or none.
+pub fn worked_sessions()
+    ensures made { (s : Setup) (line seed : ℕ) (r : ListRun)
+        → (own s line (event.Session seed) r).driving.drivers ≡ r.driving.drivers ++ new_driver (config_of s seed) ∷ [] }
+    ensures past { (r : ListRun) → refusal r (event.Cut (length r.driving.drivers + 1)) ≡ Some error.NoSession }
+    ensures busy { (r : ListRun) (session : ℕ) (d : Driver) (job : Job) → 1 ≤ session → driver_at r (session - 1) ≡ Some d
+        → is_busy d ≡ true → refusal r (event.Work session job) ≡ Some error.Busy }
+    ensures apart { (r : ListRun) (l : Linked) (bytes : List ℕ) → Contains r.driving.linked l
+        → refusal r (event.Bytes l.conn bytes) ≡ Some error.NoConn }
+    ensures up { (s : Setup) (line : ℕ) (r : ListRun) (session : ℕ) (d : Driver) → driver_at r (session - 1) ≡ Some d → d.link ≡ None
+        → (count : ℕ) → own s line (event.Up session count) r ≡ r }
+    ensures down { (s : Setup) (line : ℕ) (r : ListRun) (session : ℕ) (d : Driver) → driver_at r (session - 1) ≡ Some d → d.link ≡ None
+        → (count : ℕ) → own s line (event.Down session count) r ≡ r }
+    ensures cut { (s : Setup) (line : ℕ) (r : ListRun) (session : ℕ) (d : Driver) → driver_at r (session - 1) ≡ Some d → d.link ≡ None
+        → own s line (event.Cut session) r ≡ r }
+    ensures pump { (s : Setup) (line : ℕ) (r : ListRun) (session : ℕ) (d : Driver) → driver_at r (session - 1) ≡ Some d → d.link ≡ None
+        → Steps s line (event.Pump session None) r r }
+    ensures counts { (s : Setup) (line session : ℕ) (r t : ListRun) → Steps s line (event.Pump session (Some 0)) r t → ⊥ }
 {}
 
 /// Worked cases of a question to enter: it waits at its deadline, is late one millisecond past it, and is answered as soon

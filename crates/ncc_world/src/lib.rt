@@ -2,8 +2,13 @@
 #![tactic(auto)]
 
 mod answer;
+mod at_work;
+mod beside;
+mod bytes;
 mod clients;
 mod config;
+mod drivers;
+mod driving;
 mod earlier;
 mod error;
 mod event;
@@ -16,17 +21,20 @@ mod seen;
 mod served;
 mod setup;
 mod taken;
+mod tasks;
 mod telling;
 mod world;
 
 pub use error::{Which, WorldError};
-pub use event::{Bookmarks, Event};
+pub use event::{Bookmarks, Event, Job};
 pub use laws::{
-    every_run_keeps, list_keeps_four, requests_fit, worked_events, worked_members, worked_waits,
+    every_run_keeps, list_keeps_four, requests_fit, worked_events, worked_members, worked_sessions,
+    worked_waits,
 };
 pub use ncc_apply::{Shelf, Stamp};
 pub use ncc_clients::Told;
+pub use ncc_driver::{Last, WorkDone, WorkError};
 pub use ncc_tx::Entries;
-pub use seen::{ConnList, ConnSeen, MemberList, MemberSeen, Shown, ToldList};
+pub use seen::{ConnList, ConnSeen, MemberList, MemberSeen, Shown, ToldList, WorkList, WorkSeen};
 pub use setup::{Kind, Setup};
 pub use world::World;

@@ -8,14 +8,16 @@ ghost use Rattle.ncc_clients.specs.Run.{Client, reply, proposes, told_to, opened
 ghost use Rattle.ncc_clients.specs.Turn.{acts, Settles};
 ghost use Rattle.ncc_world.specs.Setting.{IsSetup, cluster_of, lagging};
 ghost use Rattle.ncc_world.specs.Events.{MayHappen};
-ghost use Rattle.ncc_world.specs.Happening.{ListRun, Happens, start_of, own, refusal, unless, asks, feeds, closes_one, is_member, is_open_made};
+ghost use Rattle.ncc_world.specs.Happening.{ListRun, Happens, Steps, start_of, refusal, unless, asks, is_member, is_open_made};
+ghost use Rattle.ncc_clients.specs.Drives.{feeds, closes_one};
 ghost use Rattle.ncc_world.specs.Earlier.{LeftFor};
 ghost use Rattle.ncc_world.specs.World.{RunsAs};
-ghost use Rattle.ncc_world.specs.Parts.{HasRun, LeftAt, RememberedAt, TurnBy, Offered, DoesTo, first_acting, left_in, lower, number_of, reply_in, run_in};
+ghost use Rattle.ncc_world.specs.Parts.{HasAll, HasRun, RunsAll, LeftAt, RememberedAt, TurnBy, Offered, DoesTo, first_acting, left_in, lower, number_of, reply_in, run_in};
 ghost use Rattle.ncc_world.specs.declared.served.Served.{Served as Serveds};
 
 use crate::answer::{Reply, answered};
 use crate::clients::Clients;
+use crate::drivers::Drivers;
 use crate::earlier::Earlier;
 use crate::error::WorldError;
 use crate::event::Event;
@@ -40,6 +42,7 @@ pub(crate) struct Running {
     pub(crate) told: Telling,
     /// What is kept of the transaction that is open at each connection.
     pub(crate) earlier: Vec<Option<Earlier>>,
+    pub(crate) drivers: Drivers,
 }
 
 // The lower of two numbers.
@@ -57,7 +60,7 @@ impl Running {
     /// The beginning of a run.
     pub(crate) fn new(alloc: Global, setup: &Setup) -> Result<Running, Memory>
         requires allowed { IsSetup setup.now }
-        ensures begun { IfOk result (λ w. RunsAs setup.now (run_in w) (start_of setup.now)) }
+        ensures begun { IfOk result (λ w. RunsAll setup.now w (start_of setup.now)) }
     {
         let members = Members::new(alloc, setup)?;
         let clients = Clients::new(alloc, setup.cores as usize + setup.replicas as usize)?;
@@ -67,6 +70,7 @@ impl Running {
             clients,
             told: Telling::new(alloc),
             earlier: Vec::new(alloc),
+            drivers: Drivers::new(alloc, setup)?,
         })
     }
 
@@ -89,6 +93,7 @@ impl Running {
         ensures runs { (r : ListRun) → RunsAs setup.now (run_in self.old) r → RunsAs setup.now (run_in self.new) r }
         ensures clients { self.new.clients ≡ self.old.clients }
         ensures kept { (r : ListRun) → RunsAs setup.now (run_in self.old) r → RememberedAt setup.now r index result }
+        ensures drivers { self.new.drivers ≡ self.old.drivers }
     {
         let _setup = setup;
         self.earlier[index].take()
@@ -144,6 +149,7 @@ impl Running {
         ensures ok { OnOk result ((r : ListRun) (c : Client) → RunsAs setup.now (run_in self.old) r → slice_get r.clients index ≡ Some c →
             RunsAs setup.now (run_in self.new) (told_to line r index c fact)) }
         ensures lowers { OnOk result (left_in self.new.clients < left_in self.old.clients) }
+        ensures drivers { self.new.drivers ≡ self.old.drivers }
     {
         let conn = self.clients.shown(index).conn;
         let told = Told {
@@ -166,6 +172,7 @@ impl Running {
             reply (cluster_of setup.now) r c ≡ proposes }
         ensures ok { IfOk result (λ p. (r : ListRun) (c : Client) → RunsAs setup.now (run_in self.old) r → slice_get r.clients index ≡ Some c →
             Offered setup.now r c p self.old self.new) }
+        ensures drivers { self.new.drivers ≡ self.old.drivers }
     {
         let member = self.clients.shown(index).member;
         let Some(ask) = question(self.clients.served(index)) else {
@@ -191,6 +198,7 @@ impl Running {
         ensures ok { OnOk result ((r : ListRun) (c : Client) → RunsAs setup.now (run_in self.old) r → slice_get r.clients index ≡ Some c →
             DoesTo setup.now line r index c proposes (run_in self.new)) }
         ensures lowers { OnOk result (left_in self.new.clients < left_in self.old.clients) }
+        ensures drivers { self.new.drivers ≡ self.old.drivers }
     {
         match self.offer(setup, index)? {
             Proposal::Elsewhere => self.tell(setup, line, index, Fact::Elsewhere, None)?,
@@ -222,6 +230,7 @@ impl Running {
             acts (cluster_of setup.now) r c ≡ true → DoesTo setup.now line r index c (reply (cluster_of setup.now) r c) (run_in self.new)) }
         ensures lowers { OnOk result ((r : ListRun) (c : Client) → RunsAs setup.now (run_in self.old) r → slice_get r.clients index ≡ Some c →
             acts (cluster_of setup.now) r c ≡ true → left_in self.new.clients < left_in self.old.clients) }
+        ensures drivers { self.new.drivers ≡ self.old.drivers }
     {
         match self.reply_at(alloc, setup, index, earlier)? {
             Reply::Waits => Ok(()),
@@ -244,6 +253,7 @@ impl Running {
             acts (cluster_of setup.now) r c ≡ true → DoesTo setup.now line r index c (reply (cluster_of setup.now) r c) (run_in self.new)) }
         ensures lowers { OnOk result ((r : ListRun) (c : Client) → RunsAs setup.now (run_in self.old) r → slice_get r.clients index ≡ Some c →
             acts (cluster_of setup.now) r c ≡ true → left_in self.new.clients < left_in self.old.clients) }
+        ensures drivers { self.new.drivers ≡ self.old.drivers }
     {
         let earlier = self.take_earlier(setup, index);
         self.answer_with(alloc, setup, line, index, earlier)
@@ -254,6 +264,7 @@ impl Running {
         requires live { HasRun setup.now self.old }
         ensures ok { IfOk result (λ more. (r : ListRun) → RunsAs setup.now (run_in self.old) r → TurnBy setup.now line r (run_in self.new) more) }
         ensures lowers { IfOk result (λ more. IsTrue more → left_in self.new.clients < left_in self.old.clients) }
+        ensures drivers { self.new.drivers ≡ self.old.drivers }
     {
         let Some(number) = self.first(setup) else {
             return Ok(false);
@@ -263,10 +274,11 @@ impl Running {
     }
 
     // Turn after turn, until nobody can be answered. Each lowers what is left to do.
-    fn settle(&mut self, alloc: Global, setup: &Setup, line: u64) -> Result<(), Memory>
+    pub(crate) fn settle(&mut self, alloc: Global, setup: &Setup, line: u64) -> Result<(), Memory>
         requires live { HasRun setup.now self.old }
         ensures ok { OnOk result ((r : ListRun) → RunsAs setup.now (run_in self.old) r →
             (t : ListRun) × Settles (cluster_of setup.now) line r t × RunsAs setup.now (run_in self.new) t) }
+        ensures drivers { self.new.drivers ≡ self.old.drivers }
     {
         'turns: while self.turn(alloc, setup, line)? {}
         Ok(())
@@ -284,18 +296,18 @@ impl Running {
 
     // Some open made a connection of this number.
     fn is_open_made(&self, setup: &Setup, conn: u64) -> bool
-        ensures exact { (r : ListRun) → RunsAs setup.now (run_in self.now) r → result ≡ is_open_made r conn }
+        ensures exact { (r : ListRun) → RunsAll setup.now self.now r → result ≡ is_open_made r conn }
     {
         let _setup = setup;
         if conn == 0 || self.clients.seen.len() as u64 <= conn - 1 {
             return false;
         }
-        self.clients.seen.as_slice()[conn as usize - 1].printed
+        self.clients.seen.as_slice()[conn as usize - 1].printed && !self.drivers.is_linked(conn)
     }
 
     /// Why an event is refused, if it is.
     pub(crate) fn refusal(&self, setup: &Setup, event: &Event) -> Option<WorldError>
-        ensures exact { (r : ListRun) → RunsAs setup.now (run_in self.now) r → result ≡ refusal r event.now }
+        ensures exact { (r : ListRun) → RunsAll setup.now self.now r → result ≡ refusal r event.now }
     {
         match event {
             Event::Time { to } => unless(self.clock <= *to, WorldError::BackInTime),
@@ -319,15 +331,26 @@ impl Running {
                 unless(self.is_open_made(setup, *conn), WorldError::NoConn)
             }
             Event::Close { conn } => unless(self.is_open_made(setup, *conn), WorldError::NoConn),
+            Event::Session { .. } => None,
+            Event::Work { session, .. } => self.drivers.refuses_work(*session),
+            Event::Up { session, .. } => unless(self.drivers.has(*session), WorldError::NoSession),
+            Event::Down { session, .. } => {
+                unless(self.drivers.has(*session), WorldError::NoSession)
+            }
+            Event::Pump { session, .. } => {
+                unless(self.drivers.has(*session), WorldError::NoSession)
+            }
+            Event::Cut { session } => unless(self.drivers.has(*session), WorldError::NoSession),
         }
     }
 
     // Bytes come in at the connection at an index. Once it is closed they do nothing.
-    fn feed(&mut self, setup: &Setup, index: usize, piece: Bytes) -> Result<(), Memory>
+    pub(crate) fn feed(&mut self, setup: &Setup, index: usize, piece: Bytes) -> Result<(), Memory>
         requires live { HasRun setup.now self.old }
         requires there { index < length (values self.old.clients.table) }
         ensures ok { OnOk result ((r : ListRun) → RunsAs setup.now (run_in self.old) r →
-            RunsAs setup.now (run_in self.new) (feeds setup.now r index piece)) }
+            RunsAs setup.now (run_in self.new) (feeds (cluster_of setup.now) r index piece)) }
+        ensures drivers { self.new.drivers ≡ self.old.drivers }
     {
         if self.clients.served(index).closed {
             return Ok(());
@@ -339,11 +362,12 @@ impl Running {
     }
 
     // The client closes the connection at an index.
-    fn close(&mut self, setup: &Setup, index: usize) -> Result<(), Memory>
+    pub(crate) fn close(&mut self, setup: &Setup, index: usize) -> Result<(), Memory>
         requires live { HasRun setup.now self.old }
         requires there { index < length (values self.old.clients.table) }
         ensures ok { OnOk result ((r : ListRun) → RunsAs setup.now (run_in self.old) r →
             RunsAs setup.now (run_in self.new) (closes_one r index (slice_get r.clients index))) }
+        ensures drivers { self.new.drivers ≡ self.old.drivers }
     {
         if self.clients.served(index).closed {
             return Ok(());
@@ -354,7 +378,7 @@ impl Running {
     }
 
     // A client connects to a member.
-    fn open(
+    pub(crate) fn open(
         &mut self,
         alloc: Global,
         setup: &Setup,
@@ -367,6 +391,7 @@ impl Running {
         ensures ok { OnOk result ((r : ListRun) → RunsAs setup.now (run_in self.old) r →
             RunsAs setup.now (run_in self.new) (opened r member printed)) }
         ensures more { OnOk result (length (values self.new.clients.table) ≡ length (values self.old.clients.table) + 1) }
+        ensures drivers { self.new.drivers ≡ self.old.drivers }
     {
         let now = self.clock;
         self.clients.open(alloc, setup, member, printed, now)?;
@@ -388,6 +413,7 @@ impl Running {
         requires there { (r : ListRun) → RunsAs setup.now (run_in self.old) r → is_member r member ≡ true }
         ensures ok { OnOk result ((r : ListRun) → RunsAs setup.now (run_in self.old) r →
             RunsAs setup.now (run_in self.new) (asks setup.now r member request.now)) }
+        ensures drivers { self.new.drivers ≡ self.old.drivers }
     {
         let bytes = client_bytes(alloc, request)?;
         let index = self.clients.table.len();
@@ -401,6 +427,7 @@ impl Running {
         requires there { (r : ListRun) → RunsAs setup.now (run_in self.old) r → (is_member r member ≡ true) × (member ≢ 1) }
         ensures ok { OnOk result ((r : ListRun) → RunsAs setup.now (run_in self.old) r →
             RunsAs setup.now (run_in self.new) (moved (cluster_of setup.now) r (lagging r.members member count))) }
+        ensures drivers { self.new.drivers ≡ self.old.drivers }
     {
         let _setup = setup;
         self.members.apply(member, count)?;
@@ -408,18 +435,18 @@ impl Running {
     }
 
     // The own step of an event.
-    fn step(&mut self, alloc: Global, setup: &Setup, event: &Event) -> Result<(), Memory>
+    fn step(&mut self, alloc: Global, setup: &Setup, line: u64, event: &Event) -> Result<(), Memory>
         requires allowed { IsSetup setup.now }
-        requires live { HasRun setup.now self.old }
+        requires live { HasAll setup.now self.old }
         requires may_happen { MayHappen setup.now.cluster event.now }
-        requires taken { (r : ListRun) → RunsAs setup.now (run_in self.old) r → refusal r event.now ≡ None }
-        ensures ok { OnOk result ((r : ListRun) → RunsAs setup.now (run_in self.old) r →
-            RunsAs setup.now (run_in self.new) (own setup.now event.now r)) }
+        requires taken { (r : ListRun) → RunsAll setup.now self.old r → refusal r event.now ≡ None }
+        ensures ok { OnOk result ((r : ListRun) → RunsAll setup.now self.old r →
+            (t : ListRun) × Steps setup.now line event.now r t × RunsAll setup.now self.new t) }
     {
         match event {
             Event::Time { to } => {
                 self.clock = *to;
-                Ok(())
+                self.wake_all(alloc, setup, line)
             }
             Event::Put {
                 member,
@@ -445,6 +472,21 @@ impl Running {
                 self.feed(setup, *conn as usize - 1, piece)
             }
             Event::Close { conn } => self.close(setup, *conn as usize - 1),
+            Event::Session { seed } => self.drivers.make(alloc, setup, *seed),
+            Event::Work { session, job } => {
+                self.begin(alloc, setup, line, *session as usize - 1, job)
+            }
+            Event::Up { session, bytes } => {
+                self.rise_bytes(setup, *session as usize - 1, *bytes)
+            }
+            Event::Down { session, bytes } => {
+                self.fall(alloc, setup, line, *session as usize - 1, *bytes)?;
+                Ok(())
+            }
+            Event::Pump { session, requests } => {
+                self.pump(alloc, setup, line, *session as usize - 1, *requests)
+            }
+            Event::Cut { session } => self.cut(alloc, setup, line, *session as usize - 1),
         }
     }
 
@@ -457,15 +499,14 @@ impl Running {
         event: &Event,
     ) -> Result<(), Memory>
         requires allowed { IsSetup setup.now }
-        requires live { HasRun setup.now self.old }
+        requires live { HasAll setup.now self.old }
         requires may_happen { MayHappen setup.now.cluster event.now }
-        requires taken { (r : ListRun) → RunsAs setup.now (run_in self.old) r → refusal r event.now ≡ None }
-        ensures ok { OnOk result ((r : ListRun) → RunsAs setup.now (run_in self.old) r →
-            (t : ListRun) × Happens setup.now line event.now r t × RunsAs setup.now (run_in self.new) t) }
+        requires taken { (r : ListRun) → RunsAll setup.now self.old r → refusal r event.now ≡ None }
+        ensures ok { OnOk result ((r : ListRun) → RunsAll setup.now self.old r →
+            (t : ListRun) × Happens setup.now line event.now r t × RunsAll setup.now self.new t) }
     {
-        self.step(alloc, setup, event)?;
-        self.settle(alloc, setup, line)?;
-        Ok(())
+        self.step(alloc, setup, line, event)?;
+        self.settle_all(alloc, setup, line)
     }
 }
 

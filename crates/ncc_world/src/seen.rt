@@ -1,6 +1,7 @@
 //! What a world shows of its members and connections.
 
 use ncc_clients::Told;
+use ncc_driver::{WorkDone, WorkError};
 use ncc_pack::{Bytes, Sequence};
 
 /// What a member shows of itself.
@@ -48,6 +49,17 @@ pub struct ConnSeen {
     pub out: Bytes,
 }
 
+/// A work that has ended.
+#[derive(Debug, Drop)]
+pub struct WorkSeen {
+    /// The line of the event in which it ended.
+    pub line: u64,
+    /// The session, from 1.
+    pub session: u64,
+    /// What became of it.
+    pub result: Result<WorkDone, WorkError>,
+}
+
 /// The members, member 1 first.
 pub type MemberList = Sequence<MemberSeen>;
 
@@ -56,3 +68,6 @@ pub type ConnList = Sequence<ConnSeen>;
 
 /// The facts that were told, the first first.
 pub type ToldList = Sequence<Told>;
+
+/// The works that have ended, the first first.
+pub type WorkList = Sequence<WorkSeen>;

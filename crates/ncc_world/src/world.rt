@@ -10,13 +10,13 @@ ghost use Rattle.ncc_world.specs.Setting.{IsSetup, list_at};
 ghost use Rattle.ncc_world.specs.Events.{MayHappen};
 ghost use Rattle.ncc_world.specs.Spellable.{AllAllowed, AllFit};
 ghost use Rattle.ncc_world.specs.Happening.{ListRun, Happens, start_of, refusal, is_member};
-ghost use Rattle.ncc_world.specs.Showing.{members_of, conns_of};
+ghost use Rattle.ncc_world.specs.Showing.{members_of, conns_of, works_of};
 ghost use Rattle.ncc_world.specs.World.{Stands, past, spent, is_refusal};
 
 use crate::error::{Which, WorldError};
 use crate::event::Event;
 use crate::running::Running;
-use crate::seen::{ConnList, MemberList, ToldList};
+use crate::seen::{ConnList, MemberList, ToldList, WorkList};
 use crate::setup::Setup;
 use ncc_apply::{Shelf, Stamp, View};
 use ncc_pack::Memory;
@@ -142,6 +142,13 @@ impl World {
         ensures conns { (r : ListRun) → Stands self.now r → result.now ≡ conns_of self.now.setup r }
     {
         &self.run.clients.seen
+    }
+
+    /// The works that have ended, the first first. It takes no memory.
+    pub fn works(&self) -> &WorkList
+        ensures works { (r : ListRun) → Stands self.now r → result.now ≡ works_of r }
+    {
+        self.run.drivers.works()
     }
 
     /// The history: the longest list that a member has applied. It takes no memory.

@@ -40,3 +40,39 @@ returns-in-Get-clause-bad c = λ cause h.
 pub returns-in-Bytes-clause-bad : goal.returns-in-Bytes-clause-bad
 returns-in-Bytes-clause-bad c = λ cause h.
     subst (λ v. AreBad c.args.cluster (verb_word v ∷ words_in c.args.rest) cause) (sym c.in-Bytes.is) (c.bytes.ensures.bad cause h)
+
+pub returns-in-Session-clause-bad : goal.returns-in-Session-clause-bad
+returns-in-Session-clause-bad c = λ cause h.
+    subst (λ v. AreBad c.args.cluster (verb_word v ∷ words_in c.args.rest) cause) (sym c.in-Session.is)
+    (none_bad c.args.cluster
+    (codes "session" ∷ words_in c.args.rest) c.session.result c.ok_or-in-Session.result cause c.ok_or-in-Session.ensures.value
+    c.session.ensures.none h)
+
+pub returns-in-Work-clause-bad : goal.returns-in-Work-clause-bad
+returns-in-Work-clause-bad c = λ cause h.
+    subst (λ v. AreBad c.args.cluster (verb_word v ∷ words_in c.args.rest) cause) (sym c.in-Work.is)
+    (c.work.ensures.bad cause h c.args.cluster)
+
+pub returns-in-Up-clause-bad : goal.returns-in-Up-clause-bad
+returns-in-Up-clause-bad c = λ cause h.
+    subst (λ v. AreBad c.args.cluster (verb_word v ∷ words_in c.args.rest) cause) (sym c.in-Up.is)
+    (none_bad c.args.cluster (codes "up" ∷ words_in c.args.rest) c.up.result c.ok_or-in-Up.result cause c.ok_or-in-Up.ensures.value
+    c.up.ensures.none h)
+
+pub returns-in-Down-clause-bad : goal.returns-in-Down-clause-bad
+returns-in-Down-clause-bad c = λ cause h.
+    subst (λ v. AreBad c.args.cluster (verb_word v ∷ words_in c.args.rest) cause) (sym c.in-Down.is)
+    (none_bad c.args.cluster (codes "down" ∷ words_in c.args.rest) c.down.result c.ok_or-in-Down.result cause c.ok_or-in-Down.ensures.value
+    c.down.ensures.none h)
+
+pub returns-in-Pump-clause-bad : goal.returns-in-Pump-clause-bad
+returns-in-Pump-clause-bad c = λ cause h.
+    subst (λ v. AreBad c.args.cluster (verb_word v ∷ words_in c.args.rest) cause) (sym c.in-Pump.is)
+    (none_bad c.args.cluster (codes "pump" ∷ words_in c.args.rest) c.pump.result c.ok_or-in-Pump.result cause c.ok_or-in-Pump.ensures.value
+    c.pump.ensures.none h)
+
+pub returns-in-Cut-clause-bad : goal.returns-in-Cut-clause-bad
+returns-in-Cut-clause-bad c = λ cause h.
+    subst (λ v. AreBad c.args.cluster (verb_word v ∷ words_in c.args.rest) cause) (sym c.in-Cut.is)
+    (none_bad c.args.cluster (codes "cut" ∷ words_in c.args.rest) c.cut_link.result c.ok_or-in-Cut.result cause c.ok_or-in-Cut.ensures.value
+    c.cut_link.ensures.none h)

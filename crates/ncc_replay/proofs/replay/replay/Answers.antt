@@ -3,7 +3,7 @@ use Rattle.ncc_replay.specs.Script.{IsText, whole, refused, limited}
 use Rattle.ncc_replay.specs.Replay.{MayEnd, ReadsAll}
 use Rattle.ncc_replay.specs.declared.status.Status.TheVariants.{Done, BadScript, Limit}
 use Rattle.ncc_replay.proofs.Ends.{bad_of, limit_of, ends_with, never_limited, never_refused, read_is}
-use Rattle.ncc_replay.proofs.OneEnd.{text_keeps}
+use Rattle.ncc_replay.proofs.OneEnd.{text_keeps, text_reads}
 use Rattle.ncc_replay.proofs.replay.replay.Goals as goal
 
 pub returns-in-Err-report_script-clause-completes : goal.returns-in-Err-report_script-clause-completes
@@ -72,6 +72,10 @@ returns-clause-nobody_vanishes g c = λ _ s t reads setup r e f.
 pub returns-clause-nobody_is_forgotten : goal.returns-clause-nobody_is_forgotten
 returns-clause-nobody_is_forgotten g c = λ _ s t reads setup r e f.
     (text_keeps c.every_run_keeps.ensures.headline reads.text s t whole reads.is_text setup r e f).nobody_is_forgotten
+
+pub returns-clause-sessions_read_their_writes : goal.returns-clause-sessions_read_their_writes
+returns-clause-sessions_read_their_writes g c = λ _ s t reads setup r e f.
+    text_reads c.every_run_keeps.ensures.headline reads.text s t whole reads.is_text setup r e f
 
 pub returns-clause-refuses : goal.returns-clause-refuses
 returns-clause-refuses g c = λ text s t line cause given within is.

@@ -1,4 +1,4 @@
-use Rattle.std.proofs.Common.{◌<◌, sym, length, subst}
+use Rattle.std.proofs.Common.{◌<◌, ◌∙◌, sym, length, subst}
 use Rattle.std.proofs.lemmas.Result.{on_ok_weaker}
 use Rattle.indexmap.specs.IndexMap.{values}
 use Rattle.ncc_world.specs.declared.clients.Clients.{Clients}
@@ -21,4 +21,5 @@ returns c = record {
   lowers = on_ok_weaker c.answer_with.result (λ f r d k there acting.
       subst (λ (x : Clients). left_in c.answer_with.new.self.clients < left_in x) c.take_earlier-earlier.ensures.clients
       (f r d (c.take_earlier-earlier.ensures.runs r k) there acting)) c.answer_with.ensures.lowers;
+  drivers = c.answer_with.ensures.drivers ∙ c.take_earlier-earlier.ensures.drivers;
 }

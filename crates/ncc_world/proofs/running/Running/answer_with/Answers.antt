@@ -26,6 +26,7 @@ returns-in-Tells c = record {
       let same = ap (λ (a : declared.Reply). reply_in a) (sym c.in-Tells.is) ∙ c.in_ok-reply_at.ensures.exact r d k there in
       (t, subst (λ (p : Reply). Does (cluster_of s) c.args.line r c.args.index d p t) same refl, f r d k there)) c.tell.ensures.ok;
   lowers = on_ok_weaker c.tell.result (λ l r d k there acting. l) c.tell.ensures.lowers;
+  drivers = c.tell.ensures.drivers;
 }
 
 pub returns-in-Proposes : goal.returns-in-Proposes
@@ -35,4 +36,5 @@ returns-in-Proposes c = record {
       let same = ap (λ (a : declared.Reply). reply_in a) (sym c.in-Proposes.is) ∙ c.in_ok-reply_at.ensures.exact r d k there in
       subst (λ (p : Reply). DoesTo s c.args.line r c.args.index d p (run_in c.propose.new.self)) same (f r d k there)) c.propose.ensures.ok;
   lowers = on_ok_weaker c.propose.result (λ l r d k there acting. l) c.propose.ensures.lowers;
+  drivers = c.propose.ensures.drivers;
 }

@@ -1,4 +1,4 @@
-use Rattle.std.proofs.Common.{◌≡◌, ◌<◌, ◌∙◌, sym, subst, arith, append-nil, List, [], ◌++◌, ◌-◌, take, drop, length}
+use Rattle.std.proofs.Common.{◌≡◌, ◌<◌, ◌∙◌, sym, subst, arith, append-nil, List, [], ◌++◌, ◌-◌, take, drop, length, refl}
 use Rattle.ncc_world.specs.World.{AreServed}
 use Rattle.ncc_world.specs.Setting.{lagging, extended, list_at}
 use Rattle.ncc_world.specs.Parts.{clients_in}
@@ -40,4 +40,5 @@ returns c = record {
             (begins_more (list_at r.members c.args.member)
             (take c.args.count (drop (length (list_at r.members c.args.member)) (list_at r.members 1)))) (m - 1));
       };
+  drivers = refl;
 }

@@ -14,6 +14,7 @@ returns-then-served c = record {
       let w = run_in c.args.self.now in
       let h = sits_at s w r c.args.index c.served.result.now k c.requires.there c.served.ensures.is in
       subst (λ (x : ListRun). RunsAs s w x) (closed_same r c.args.index h.client h.there (sym h.is.kept.closed ∙ c.if-served.true)) k;
+  drivers = refl;
 }
 
 pub returns : goal.returns
@@ -37,4 +38,5 @@ returns c = record {
         earlier = one_changes s c.args.self.now.earlier.items r c.args.index h.client (record h.client { closed = true }) k.earlier h.there
             (λ o. closed_remembers s (list_at r.members h.client.member) h.client o);
       });
+  drivers = refl;
 }

@@ -17,6 +17,7 @@ returns-then-served c = record {
       let w = run_in c.args.self.now in
       let h = sits_at s w r c.args.index c.served.result.now k c.requires.there c.served.ensures.is in
       subst (λ (x : ListRun). RunsAs s w x) (fed_none s r c.args.index c.args.piece h.client h.there (sym h.is.kept.closed ∙ c.if-served.true)) k;
+  drivers = refl;
 }
 
 pub returns : goal.returns
@@ -44,4 +45,5 @@ returns c = record {
             (λ o. fed_remembers s (list_at r.members h.client.member) r.now h.client c.args.piece o
             (ap (λ (t : Standing). t.facts) h.is.kept.talk.went));
       });
+  drivers = refl;
 }

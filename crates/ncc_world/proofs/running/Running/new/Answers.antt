@@ -14,12 +14,17 @@ returns c =
     let n = c.args.setup.now.cores + c.args.setup.now.replicas in
     record {
       begun = record {
-        now = refl;
-        history = sym c.in_ok-members.ensures.new.first ∙ first_list n;
-        members = c.in_ok-members.ensures.new;
-        clients = subst (λ (k : ℕ). AreServed s k (clients_in c.in_ok-clients.clients) []) (sym (empties_count n))
-            (c.in_ok-clients.ensures.none s);
-        told = c.new-3.ensures.empty;
-        earlier = subst (λ (es : List (Option Earlier)). AllRemember s es (start_of s)) (sym c.new-4.ensures.items) (none_remember s);
+        runs_as = record {
+          now = refl;
+          history = sym c.in_ok-members.ensures.new.first ∙ first_list n;
+          members = c.in_ok-members.ensures.new;
+          clients = subst (λ (k : ℕ). AreServed s k (clients_in c.in_ok-clients.clients) []) (sym (empties_count n))
+              (c.in_ok-clients.ensures.none s);
+          told = c.new-3.ensures.empty;
+          earlier = subst (λ (es : List (Option Earlier)). AllRemember s es (start_of s)) (sym c.new-4.ensures.items) (none_remember s);
+        };
+        drives = c.in_ok-new.ensures.none;
+        members = empties_count n;
+        awake = refl;
       };
     }

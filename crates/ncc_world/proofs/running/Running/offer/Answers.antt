@@ -35,6 +35,7 @@ returns-in-Enter c = record {
       let client = client_is s (run_in c.args.self.now) r c.args.index v seen d k there c.served.ensures.is c.shown.ensures.shown in
       let asked = sym (asked_is s v seen d client.kept) ∙ c.in-Some.ensures.some ∙ ap (λ (q : Ask). Some (asks_of q)) c.in-Enter.is in
       absurd (no_enter s r d c.in-Enter.need (reply_some s r d _ asked ∙ c.requires.asks r d k there));
+  drivers = refl;
 }
 
 pub returns-in-Run : goal.returns-in-Run
@@ -46,6 +47,7 @@ returns-in-Run c = record {
       let client = client_is s (run_in c.args.self.now) r c.args.index v seen d k there c.served.ensures.is c.shown.ensures.shown in
       let asked = sym (asked_is s v seen d client.kept) ∙ c.in-Some.ensures.some ∙ ap (λ (q : Ask). Some (asks_of q)) c.in-Run.is in
       absurd (no_run s r d (map call_of c.in-Run.steps) (reply_some s r d _ asked ∙ c.requires.asks r d k there));
+  drivers = refl;
 }
 
 pub returns-in-Route : goal.returns-in-Route
@@ -57,6 +59,7 @@ returns-in-Route c = record {
       let client = client_is s (run_in c.args.self.now) r c.args.index v seen d k there c.served.ensures.is c.shown.ensures.shown in
       let asked = sym (asked_is s v seen d client.kept) ∙ c.in-Some.ensures.some ∙ ap (λ (q : Ask). Some (asks_of q)) c.in-Route.is in
       absurd (no_route s r d (reply_some s r d _ asked ∙ c.requires.asks r d k there));
+  drivers = refl;
 }
 
 pub returns-in_default : goal.returns-in_default
@@ -68,6 +71,7 @@ returns-in_default c = record {
       let client = client_is s (run_in c.args.self.now) r c.args.index v seen d k there c.served.ensures.is c.shown.ensures.shown in
       let asked = sym (asked_is s v seen d client.kept) ∙ c.in_default.ensures.none in
       absurd (no_wait (reply_none s r d asked ∙ c.requires.asks r d k there));
+  drivers = refl;
 }
 
 pub returns-in_ok-proposal-in-Leave : goal.returns-in_ok-proposal-in-Leave
@@ -88,4 +92,5 @@ returns-in_ok-proposal-in-Leave c = record {
         earlier = refl;
         grows = c.in_ok-proposal-in-Leave.ensures.only_grows;
       };
+  drivers = refl;
 }

@@ -111,6 +111,7 @@ returns-in_ok-tell-in-Elsewhere c = record {
       let d = get_there r.clients c.args.index (omega (arith, n.table, c.requires.there)) in
       let o = c.in_ok-offer.ensures.ok r d.0 k d.1 in
       subst (λ (x : Clients). left_in c.tell.new.self.clients < left_in x) o.clients c.in_ok-tell-in-Elsewhere.ensures.lowers;
+  drivers = c.in_ok-tell-in-Elsewhere.ensures.drivers ∙ c.in_ok-offer.ensures.drivers;
 }
 
 pub returns-in_ok-tell-in-Full : goal.returns-in_ok-tell-in-Full
@@ -132,6 +133,7 @@ returns-in_ok-tell-in-Full c = record {
       let d = get_there r.clients c.args.index (omega (arith, n.table, c.requires.there)) in
       let o = c.in_ok-offer.ensures.ok r d.0 k d.1 in
       subst (λ (x : Clients). left_in c.tell-in-Full.new.self.clients < left_in x) o.clients c.in_ok-tell-in-Full.ensures.lowers;
+  drivers = c.in_ok-tell-in-Full.ensures.drivers ∙ c.in_ok-offer.ensures.drivers;
 }
 
 pub tell-requires-clause-left : goal.tell-requires-clause-left
@@ -215,4 +217,5 @@ returns-in_ok-change-in-Placed c = record {
       let none = unplaced s r v.0 h.seen h.client o.entry h.is o.entry_is (c.requires.asks r h.client k h.there) in
       let there = subst (λ (x : Clients). slice_get (values x.table) c.args.index ≡ Some v.0) (sym o.clients) v.1 in
       subst (λ (x : Clients). left_in c.change.new.self < left_in x) o.clients (c.in_ok-change-in-Placed.ensures.lowers v.0 there none);
+  drivers = c.in_ok-offer.ensures.drivers;
 }

@@ -56,4 +56,5 @@ returns c = record {
       };
   lowers =
       let v = get_there (values c.args.self.now.clients.table) c.args.index c.requires.there in c.in_ok-change.ensures.lowers v.0 v.1;
+  drivers = refl;
 }

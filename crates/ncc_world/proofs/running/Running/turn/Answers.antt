@@ -50,4 +50,5 @@ returns c = record {
       let f = found_first (acts (cluster_of c.args.setup.now) r) 1 r.clients c.in-Some.number k.clients.numbered (sym (c.in-Some.ensures.first r k)) in
       let same : f.index ≡ c.in-Some.number - 1 = omega (arith, f.number) in
       c.in_ok-answer.ensures.lowers r f.client k (ap (λ i. slice_get r.clients i) (sym same) ∙ f.there) f.passes;
+  drivers = c.in_ok-answer.ensures.drivers;
 }

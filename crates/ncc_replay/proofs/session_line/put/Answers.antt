@@ -1,0 +1,14 @@
+use Rattle.std.proofs.Common.{ap, sym, ◌∙◌, drop}
+use Rattle.ncc_replay.specs.Reading.{words_in}
+use Rattle.ncc_replay.proofs.Lines.{cause_is}
+use Rattle.ncc_replay.proofs.SessionLines.{put_bad}
+use Rattle.ncc_replay.proofs.Words.{some_words}
+use Rattle.ncc_replay.proofs.session_line.put.Goals as goal
+
+pub returns-then-is_some-clause-bad : goal.returns-then-is_some-clause-bad
+returns-then-is_some-clause-bad c = λ cause h. (
+  sym (cause_is _ cause h),
+  put_bad (words_in c.args.rest) (λ key value word other e.
+      some_words c.in-Some-next_name.rest (sym c.is_some.ensures ∙ c.if-is_some.true)
+      (ap (drop 1) (sym c.in-Some-next_name.ensures.some.1 ∙ ap (drop 1) (sym c.in-Some.ensures.some.1 ∙ e)))),
+)

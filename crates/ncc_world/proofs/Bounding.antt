@@ -1,0 +1,94 @@
+-- Over one list the history has no more entries than the cluster's limit.
+use Rattle.std.proofs.Common.{◌≡◌, ◌≢◌, ℕ, zero, suc, ◌+◌, ◌-◌, ◌<◌, ◌≤◌, ◌^◌, ◌==◌, nat_le, Bool, true, false, cond, List, [], ◌∷◌, ◌++◌, length}
+use Rattle.std.proofs.Common.{refl, ap, sym, ◌∙◌, arith, length-append, subst, inl, inr}
+use Rattle.std.specs.Prelude.{slice_set, replicate}
+use Rattle.std.proofs.lemmas.Bool.Decides.{leb_tells}
+use Rattle.std.proofs.lemmas.List.{get_or-set_other}
+use Rattle.ncc_tx.specs.declared.entry.Entry.{Entry}
+use Rattle.ncc_tx.specs.declared.entry.Item.{Item}
+use Rattle.ncc_clients.specs.Members.{Proposed, elsewhere, full, placed}
+use Rattle.ncc_clients.specs.Run.{Client, begun, proposed}
+use Rattle.ncc_clients.specs.Moment.{Small, Ticks, Opens, Feeds, Tells, Offers, Moves, Drives, Closes, Path, Here, Then}
+use Rattle.ncc_clients.specs.Course.{HasNumbers}
+use Rattle.ncc_world.specs.declared.setup.Setup.{Setup}
+use Rattle.ncc_world.specs.Setting.{IsSetup, Lists, Applies, cluster_of, nobody, list_at, appended, item_of, proposes, extended}
+use Rattle.ncc_world.specs.Happening.{ListRun}
+use Rattle.ncc_world.proofs.Listed.{reached, first_is}
+
+-- so many at most
+abbrev Bounded : Setup → Lists → Type 0
+Bounded s lists = length (list_at lists 1) ≤ s.limit
+
+first_set : (lists : Lists) (x : List Item) → length (list_at (slice_set lists 0 x) 1) ≤ length x
+first_set [] x = omega arith
+first_set (y ∷ ys) x = omega arith
+
+applied_bounded : (s : Setup) (lists members : Lists) → Applies lists members → Bounded s lists → Bounded s members
+applied_bounded s lists members a h =
+    let other : 0 ≢ a.member - 1 = λ e. omega (arith, a.follows, e) in
+    let x : List Item = extended (list_at lists a.member) (list_at lists 1) a.count in
+    let same : list_at members 1 ≡ list_at lists 1 =
+    ap (λ (ls : Lists). list_at ls 1) a.same ∙ get_or-set_other lists (a.member - 1) 0 x [] other in
+    subst (λ (l : List Item). length l ≤ s.limit) (sym same) h
+
+appended_bounded : (s : Setup) (lists : Lists) (entry : Entry) → nat_le s.limit (length (list_at lists 1)) ≡ false
+    → Bounded s (appended lists entry)
+appended_bounded s lists entry e = elim (leb_tells s.limit (length (list_at lists 1))) [
+  | inl h ↦ absurd (let z = h.0 in cc)
+  | inr h ↦ omega (
+    arith,
+    h.1,
+    first_set lists (list_at lists 1 ++ (item_of entry ∷ [])),
+    length-append (list_at lists 1) (item_of entry ∷ []),
+  )
+]
+
+placed_bounded : (s : Setup) (lists : Lists) (member : ℕ) (entry : Entry) (place term : ℕ) (after : Lists)
+    → (cluster_of s).propose lists member entry ≡ placed place term after → Bounded s after
+placed_bounded s lists member entry place term after e = go (member == 1) e where
+  there : (b : Bool) → nat_le s.limit (length (list_at lists 1)) ≡ b
+      → cond b (full (length (list_at lists 1))) (placed (length (list_at lists 1) + 1) 1 (appended lists entry)) ≡ placed place term after
+      → Bounded s after
+  there true f h = absurd (cc)
+  there false f h =
+      let so : appended lists entry ≡ after = cc in
+      subst (λ (ls : Lists). Bounded s ls) so (appended_bounded s lists entry f)
+
+  go : (b : Bool) → cond b (proposes s.limit lists entry) elsewhere ≡ placed place term after → Bounded s after
+  go true h = there (nat_le s.limit (length (list_at lists 1))) refl h
+  go false h = absurd (cc)
+
+proposed_bounded : (s : Setup) (line : ℕ) (r : ListRun) (i : ℕ) (c : Client) (entry : Entry) (p : Proposed Lists)
+    → (cluster_of s).propose r.members c.member entry ≡ p → Bounded s r.members
+    → Bounded s (proposed (cluster_of s) line r i c p).members
+proposed_bounded s line r i c entry elsewhere e h = h
+proposed_bounded s line r i c entry (full entries) e h = h
+proposed_bounded s line r i c entry (placed place term after) e h = placed_bounded s r.members c.member entry place term after e
+
+small_bounded : (s : Setup) (r t : ListRun) → Small (cluster_of s) r t → Bounded s r.members → Bounded s t.members
+small_bounded s r t (Ticks _ to le) h = h
+small_bounded s r t (Opens _ member printed) h = h
+small_bounded s r t (Feeds _ i c piece is) h = h
+small_bounded s r t (Tells line _ i c fact is) h = h
+small_bounded s r t (Offers line _ i c entry is) h =
+    proposed_bounded s line r i c entry ((cluster_of s).propose r.members c.member entry) refl h
+small_bounded s r t (Moves _ members is) h = applied_bounded s r.members members is h
+small_bounded s r t (Drives _ driving) h = h
+small_bounded s r t (Closes _ i c is) h = h
+
+path_bounded : (s : Setup) (r t : ListRun) → Path (cluster_of s) r t → Bounded s r.members → Bounded s t.members
+path_bounded s r t (Here _) h = h
+path_bounded s r t (Then _ m _ first rest) h = path_bounded s m t rest (small_bounded s r m first h)
+
+start_bounded : (s : Setup) → Bounded s (nobody s)
+start_bounded s = go (s.cores + s.replicas) where
+  go : (n : ℕ) → length (list_at (replicate n []) 1) ≤ s.limit
+  go zero = omega arith
+  go (suc n) = omega arith
+
+pub has_numbers : (s : Setup) → IsSetup s → HasNumbers (cluster_of s) (nobody s)
+has_numbers s setup = record { id = setup.id; places = λ r p. few r p } where
+  few : (r : ListRun) → Path (cluster_of s) (begun (nobody s)) r → length r.history < 2 ^ 64
+  few r p =
+      let bounded : Bounded s r.members = path_bounded s (begun (nobody s)) r p (start_bounded s) in
+      omega (arith, bounded, ap length (first_is r (reached s setup r p)), setup.limit.1)

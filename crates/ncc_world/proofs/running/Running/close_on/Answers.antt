@@ -1,0 +1,35 @@
+use Rattle.std.proofs.Common.{◌≤◌, ◌-◌, ℕ, ap, arith, length, subst}
+use Rattle.std.proofs.lemmas.Result.{on_ok_weaker}
+use Rattle.std.proofs.lemmas.Map.Entries.{length-values_of}
+use Rattle.ncc_clients.specs.Drives.{closes}
+use Rattle.ncc_world.specs.declared.drivers.Drivers.{Drivers}
+use Rattle.ncc_world.specs.Happening.{ListRun}
+use Rattle.ncc_world.specs.World.{RunsAs}
+use Rattle.ncc_world.specs.Parts.{RunsMid, run_in}
+use Rattle.ncc_world.proofs.Turning.{counted}
+use Rattle.ncc_world.proofs.Aside.{closes_aside, closes_past, mid_from}
+use Rattle.ncc_world.proofs.running.Running.close_on.Goals as goal
+
+pub returns-then-len-at-clause-ok : goal.returns-then-len-at-clause-ok
+returns-then-len-at-clause-ok c = λ at left pending r k.
+    let s = c.args.setup.now in
+    let n = counted s (run_in c.args.self.now) r k.runs_as in
+    let past : length r.clients ≤ c.args.conn - 1 =
+    omega (arith, c.if-len-at.true, c.len.ensures.len, n.table, length-values_of c.args.self.now.clients.table.entries, c.saturating_sub-at.ensures) in
+    subst (λ (x : ListRun). RunsMid s at left pending c.args.self.now x) (closes_past r (c.args.conn - 1) past) k
+
+pub close-requires-clause-there : goal.close-requires-clause-there
+close-requires-clause-there c =
+    omega (arith, c.if-len-at.false, c.len.ensures.len, length-values_of c.args.self.now.clients.table.entries)
+
+pub returns-clause-ok : goal.returns-clause-ok
+returns-clause-ok c = on_ok_weaker c.close.result (λ f at left pending r k.
+    let s = c.args.setup.now in
+    let i : ℕ = c.args.conn - 1 in
+    let runs : RunsAs s (run_in c.close.new.self) (closes r i) =
+    subst (λ (j : ℕ). RunsAs s (run_in c.close.new.self) (closes r j)) c.saturating_sub-at.ensures (f r k.runs_as) in
+    mid_from s at left pending c.args.self.now c.close.new.self r (closes r i) k runs c.close.ensures.drivers (closes_aside r i))
+    c.close.ensures.ok
+
+pub returns-clause-count : goal.returns-clause-count
+returns-clause-count c = ap (λ (d : Drivers). length d.list.items) c.close.ensures.drivers
