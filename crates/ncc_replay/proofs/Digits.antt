@@ -4,7 +4,7 @@ use Rattle.std.proofs.Common.{◌++◌, length}
 use Rattle.std.proofs.Common.{zero, suc, append_assoc, All, refl, sym, ap, ◌∙◌, arith, drop, get_or}
 use Rattle.std.proofs.lemmas.Bool.{ltb-true, ltb-false, ne_eqb}
 use Rattle.std.proofs.lemmas.List.Elements.{All-nil, All-cons, All-head, All-tail}
-use Rattle.ncc_replay.specs.Line.{hex, hex_digit, hex_byte}
+use Rattle.ncc_replay.specs.Line.{hex, hex_digit}
 use Rattle.ncc_replay.specs.Reading.{IsHex}
 use Rattle.ncc_replay.proofs.Words.{NoSpace}
 

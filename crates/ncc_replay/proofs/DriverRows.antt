@@ -1,11 +1,10 @@
 -- The rows of a work that a session commits have a spelling.
-use Rattle.std.proofs.Common.{◌≡◌, ℕ, zero, suc, ◌+◌, Bool, true, false, List, [], ◌∷◌, ◌++◌, Option, Some, None, Result, Ok, Err, refl, sym, subst}
+use Rattle.std.proofs.Common.{◌≡◌, ℕ, zero, suc, ◌+◌, Bool, true, false, List, [], ◌∷◌, ◌++◌, Option, Some, None, Ok, Err, refl}
 use Rattle.std.proofs.Common.{drop, length}
 use Rattle.std.specs.Prelude.{if◌then◌else◌}
 use Rattle.std.specs.List.{AllByRecursion}
 use Rattle.ncc_pack.specs.declared.value.Value.{Value}
 use Rattle.ncc_pack.specs.declared.value.Value.TheVariants as v
-use Rattle.ncc_route.specs.declared.table.Table.{Table}
 use Rattle.ncc_route.specs.declared.table.Role.{Role}
 use Rattle.ncc_stream.specs.Stream.{run, going, still, behind as written_behind}
 use Rattle.ncc_driver.specs.declared.config.SessionConfig.{SessionConfig}
@@ -21,7 +20,6 @@ use Rattle.ncc_driver.specs.declared.action.Action.TheVariants.{Finish}
 use Rattle.ncc_driver.specs.declared.action.Input.{Input}
 use Rattle.ncc_driver.specs.declared.action.Input.TheVariants as i
 use Rattle.ncc_driver.specs.declared.action.Last.{Last}
-use Rattle.ncc_driver.specs.declared.action.WorkDone.{WorkDone}
 use Rattle.ncc_driver.specs.declared.action.WorkError.TheVariants as e
 use Rattle.ncc_driver.specs.declared.answers.Told.{Told}
 use Rattle.ncc_driver.specs.declared.answers.Told.TheVariants as m
@@ -32,10 +30,10 @@ use Rattle.ncc_driver.specs.Work.{Job, rows_fit}
 use Rattle.ncc_driver.specs.State.{Place, Turned, new_core}
 use Rattle.ncc_driver.specs.Requests.{closes}
 use Rattle.ncc_driver.specs.Attempts.{before, retries, loses, fails, fails_by, is_spent, is_transient, is_no_leader, drops_table, joins}
-use Rattle.ncc_driver.specs.Attempts.{joins_server, joins_by, joins_router, router_of, role_of, addresses_in, drawn, opened, attempts, at_core}
+use Rattle.ncc_driver.specs.Attempts.{joins_server, joins_by, router_of, role_of, drawn, opened, attempts, at_core}
 use Rattle.ncc_driver.specs.Attempts.{is_fresh, takes_step, steps_on, follows, follows_hello, so_far, keeps_table, behind, finishes, done_of}
-use Rattle.ncc_driver.specs.Session.{Listening, Standing, State, Ran, Moved, Begun, new_state, takes, takes_by, answered, turned, told_by, items_of}
-use Rattle.ncc_driver.specs.Session.{listening, heard, hears, or_more, on, on_input, begins, told_all, works_all, session, acts}
+use Rattle.ncc_driver.specs.Session.{Listening, Standing, State, Ran, Moved, Begun, new_state, takes, takes_by, items_of}
+use Rattle.ncc_driver.specs.Session.{listening, or_more, on, on_input, begins, told_all, works_all, session, acts}
 use Rattle.ncc_driver.proofs.Kept.{no_rows}
 use Rattle.ncc_driver.proofs.LegsTold.{Own, own_told}
 use Rattle.ncc_replay.specs.Report.{result_fits}

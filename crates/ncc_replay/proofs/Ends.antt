@@ -1,6 +1,5 @@
 -- How a replay ends, by what was read.
-use Rattle.std.proofs.Common.{◌≡◌, ◌≢◌, ◌⊎◌, ℕ, ◌+◌, List, [], ◌∷◌, ◌++◌, Option, None, Some, refl, ap, sym, ◌∙◌, subst, inl, inr}
-use Rattle.std.proofs.Common.{codes, arith}
+use Rattle.std.proofs.Common.{◌≡◌, ◌≢◌, ℕ, ◌+◌, List, ◌++◌, Option, None, Some, refl, ap, ◌∙◌, subst, inl, inr}
 use Rattle.std.specs.Io.KnownBytes.{Consumes, IsAtEnd}
 use Rattle.std.proofs.lemmas.List.{append-nil}
 use Rattle.ncc_world.specs.declared.setup.Setup.{Setup}
@@ -10,9 +9,8 @@ use Rattle.ncc_world.specs.declared.error.Which.TheVariants as w
 use Rattle.ncc_world.specs.Happening.{ListRun, start_of}
 use Rattle.ncc_replay.specs.Script.{Script, End, whole, refused, limited, Lines, IsText, OneEnd, numbered, EventLines, ClusterLines}
 use Rattle.ncc_replay.specs.Script.{ScriptLines}
-use Rattle.ncc_replay.specs.Replay.{ReadsAll, ReadsTo, ReadsUpTo, Passes, MayEnd, status_of, status_of_script_error}
+use Rattle.ncc_replay.specs.Replay.{ReadsAll, ReadsUpTo, Passes, MayEnd, status_of, status_of_script_error}
 use Rattle.ncc_replay.specs.declared.status.Cause.{Cause}
-use Rattle.ncc_replay.specs.declared.status.Status.{Status}
 use Rattle.ncc_replay.specs.declared.status.Status.TheVariants.{Done, BadScript}
 use Rattle.ncc_replay.specs.declared.status.Status.TheVariants as status
 use Rattle.ncc_replay.specs.declared.script.ScriptError.{ScriptError}

@@ -1,8 +1,8 @@
 -- What the words of a line say, and that they say one event at most.
-use Rattle.std.proofs.Common.{◌≡◌, ◌≢◌, ℕ, ◌+◌, ◌*◌, ◌<◌, ◌≤◌, ◌^◌, true, false, cond, ◌==◌, not, ◌&&◌, nat_le, nat_lt, List, [], ◌∷◌, ◌++◌}
+use Rattle.std.proofs.Common.{◌≡◌, ◌≢◌, ℕ, ◌+◌, ◌*◌, ◌<◌, ◌≤◌, ◌^◌, true, false, ◌==◌, ◌&&◌, List, [], ◌∷◌, ◌++◌}
 use Rattle.std.proofs.Common.{length, drop}
-use Rattle.std.proofs.Common.{take, refl, sym, ap, ◌∙◌, subst, arith, codes, decimal, get_or, All, inl, inr}
-use Rattle.std.specs.List.{AllByRecursion, join_with_byte, list_all, before_first}
+use Rattle.std.proofs.Common.{refl, sym, ap, ◌∙◌, subst, arith, codes, decimal, get_or, All, inl, inr}
+use Rattle.std.specs.List.{AllByRecursion, join_with_byte, list_all}
 use Rattle.std.specs.List.{position_or_len}
 use Rattle.std.proofs.lemmas.Bool.{and_parts, cases_lt}
 use Rattle.std.proofs.lemmas.List.{take_all}
@@ -14,7 +14,7 @@ use Rattle.ncc_bookmark.specs.Spelling.{text_of}
 use Rattle.ncc_bookmark.proofs.Texts.{point_of_text}
 use Rattle.ncc_replay.specs.Line.{bookmark_words, is_bookmark_word, hex, MayPresent, Spellable, words_of, Says, setup_words, SaysCluster}
 use Rattle.ncc_replay.specs.Line.{SaysNone, IsRightBut, IsCause, first_word, is_verb, job_words, limit_words, FitsLimit}
-use Rattle.ncc_replay.specs.Reading.{words_between, AreWords, AreRightBut, AreBad, IsBookmark, AreBookmarks, AreNoBookmarks, AreSetup}
+use Rattle.ncc_replay.specs.Reading.{words_between, AreWords, AreRightBut, AreBad, IsBookmark, AreNoBookmarks, AreSetup}
 use Rattle.ncc_replay.specs.Reading.{verb_word}
 use Rattle.std.proofs.Common.{Bool, Option, None, Some, Result, Ok, Err, IfNone, IsErrOf}
 use Rattle.std.specs.Option.{ok_or}

@@ -1,18 +1,16 @@
 -- Each text ends in one way.
-use Rattle.std.proofs.Common.{◌≡◌, ◌≢◌, ℕ, ◌+◌, ◌<◌, ◌≤◌, ◌⊎◌, List, [], ◌∷◌, ◌++◌, length, Option, None, Some, Bool, true, false}
+use Rattle.std.proofs.Common.{◌≡◌, ◌≢◌, ℕ, ◌+◌, ◌⊎◌, List, [], ◌∷◌, Option, None, Some, Bool, true, false}
 use Rattle.std.proofs.Common.{refl, ap, sym, ◌∙◌, subst}
 use Rattle.std.proofs.Common.{arith, inl, inr, codes}
 use Rattle.ncc_world.specs.declared.setup.Setup.{Setup}
 use Rattle.ncc_world.specs.declared.event.Event.{Event}
-use Rattle.ncc_world.specs.declared.error.WorldError.{WorldError}
-use Rattle.ncc_world.specs.declared.error.Which.TheVariants.{Line as LineLimit, Events as EventsLimit}
 use Rattle.ncc_world.specs.Happening.{ListRun, start_of, refusal, Happens, RunsOn}
 use Rattle.ncc_clients.specs.Reads.{SessionsReadTheirWrites}
 use Rattle.ncc_world.specs.Headline.{EveryRunKeeps, Headline, OneRun, AllMayHappen}
 use Rattle.ncc_world.specs.Showing.{works_of}
 use Rattle.ncc_world.specs.Setting.{IsSetup}
-use Rattle.ncc_replay.specs.Line.{Says, SaysNone, SaysCluster, IsCause, IsRightBut, first_word, is_verb, is_skipped}
-use Rattle.ncc_replay.specs.Script.{Script, End, whole, refused, limited, Lines, Counts, Accepted, IsRefusedFor, EventLines}
+use Rattle.ncc_replay.specs.Line.{SaysNone, SaysCluster, IsCause, IsRightBut, first_word, is_verb, is_skipped}
+use Rattle.ncc_replay.specs.Script.{Script, End, refused, Lines, IsRefusedFor, EventLines}
 use Rattle.ncc_replay.specs.Script.{ClusterLines, ScriptLines}
 use Rattle.ncc_replay.specs.Script.{IsNoCluster, is_long, cause_of, numbered, IsText, OneEnd}
 use Rattle.ncc_replay.specs.declared.status.Cause.{Cause}

@@ -1,13 +1,12 @@
 -- A script as it is read: its lines, and what those so far make.
-use Rattle.std.proofs.Common.{◌≡◌, ◌≢◌, ℕ, zero, suc, ◌+◌, ◌-◌, ◌<◌, ◌≤◌, ◌^◌, ◌==◌, List, [], ◌∷◌, ◌++◌, length, take, drop, get_or}
+use Rattle.std.proofs.Common.{◌≡◌, ◌≢◌, ℕ, zero, suc, ◌+◌, ◌-◌, ◌<◌, ◌≤◌, ◌==◌, List, [], ◌∷◌, ◌++◌, length, take, drop, get_or}
 use Rattle.std.proofs.Common.{Option}
-use Rattle.std.proofs.Common.{None, Some, Bool, true, false, cond, not, Err, IsErrOf, IsTrue, refl, ap, sym, ◌∙◌, arith, subst, inl}
-use Rattle.std.proofs.Common.{inr, codes}
+use Rattle.std.proofs.Common.{None, Some, Bool, true, false, cond, Err, IsErrOf, IsTrue, refl, ap, sym, ◌∙◌, arith, subst}
 use Rattle.std.proofs.Common.{append_assoc, eqb-true, ltb-false, ltb-true, nat_lt}
 use Rattle.std.specs.Prelude.{position}
 use Rattle.std.specs.List.{onto_first, enumerate_from, position_or_len, join_with_byte}
 use Rattle.std.proofs.lemmas.Bool.{false≢true, eq-eqb, lt-ltb}
-use Rattle.std.proofs.lemmas.List.{append-nil, take_rest}
+use Rattle.std.proofs.lemmas.List.{take_rest}
 use Rattle.std.proofs.Math.ListN.{drop_of_length-le}
 use Rattle.std.proofs.lemmas.List.Sums.{fails_before_first}
 use Rattle.std.proofs.lemmas.List.Quantifiers.{position-Some}
@@ -20,9 +19,9 @@ use Rattle.ncc_world.specs.declared.error.Which.{Which}
 use Rattle.ncc_world.specs.declared.error.Which.TheVariants.{Line as LineLimit, Events as EventsLimit}
 use Rattle.ncc_world.specs.Events.{MayHappen, CountsSome}
 use Rattle.ncc_world.specs.Happening.{ListRun, start_of, refusal, Happens}
-use Rattle.ncc_world.specs.World.{Kept, Stands, Standing, alive, past, is_refusal}
-use Rattle.ncc_replay.specs.Line.{Says, SaysNone, SaysCluster, Spellable, FitsLimit, bookmark_words, words_of, header, is_skipped}
-use Rattle.ncc_replay.specs.Script.{Script, End, whole, refused, limited, Lines, lines_of, Counts, Accepted, IsRefusedFor, EventLines}
+use Rattle.ncc_world.specs.World.{Kept, Stands, alive, past, is_refusal}
+use Rattle.ncc_replay.specs.Line.{Says, SaysNone, SaysCluster, FitsLimit, words_of, header, is_skipped}
+use Rattle.ncc_replay.specs.Script.{Script, whole, refused, limited, Lines, lines_of, Counts, Accepted, EventLines}
 use Rattle.ncc_replay.specs.Script.{ClusterLines}
 use Rattle.ncc_replay.specs.Script.{ScriptLines, IsNoCluster, is_long, max_events, cause_of}
 use Rattle.std.proofs.Common.{length-append}

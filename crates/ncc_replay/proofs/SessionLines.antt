@@ -1,5 +1,5 @@
 -- What the words of a session's line say, and why they say nothing.
-use Rattle.std.proofs.Common.{◌≡◌, ◌≢◌, ℕ, ℤ, ◌<◌, ◌≤◌, ◌^◌, true, List, [], ◌∷◌, Option, None, Some, refl, sym, ap, ◌∙◌, arith, codes, decimal}
+use Rattle.std.proofs.Common.{◌≡◌, ◌≢◌, ℕ, ℤ, ◌<◌, ◌≤◌, ◌^◌, true, List, [], ◌∷◌, Option, None, Some, ap, arith, codes, decimal}
 use Rattle.std.proofs.Common.{drop, is_some}
 use Rattle.std.specs.Borrow.{Bor}
 use Rattle.ncc_pack.specs.Fits.{fits_i64}

@@ -1,8 +1,8 @@
 -- The pieces of a report: rows, parameters, places.
-use Rattle.std.proofs.Common.{◌≡◌, ◌≢◌, ℕ, zero, suc, ◌+◌, ◌<◌, ◌≤◌, ◌==◌, Bool, true, false, ◌&&◌, cond, List, [], ◌∷◌, ◌++◌, length}
+use Rattle.std.proofs.Common.{◌≡◌, ◌≢◌, ℕ, zero, suc, ◌+◌, ◌<◌, ◌≤◌, Bool, true, false, ◌&&◌, cond, List, [], ◌∷◌, ◌++◌, length}
 use Rattle.std.proofs.Common.{map, drop, get_or}
-use Rattle.std.proofs.Common.{Option, None, Some, refl, ap, sym, ◌∙◌, subst, arith, codes}
-use Rattle.std.specs.Prelude.{slice_get, nat_eq, nat_le, IsTrue}
+use Rattle.std.proofs.Common.{Option, None, Some, refl, ap, sym, ◌∙◌, arith, codes}
+use Rattle.std.specs.Prelude.{slice_get, nat_le, IsTrue}
 use Rattle.std.specs.List.{All, flat_map, list_all}
 use Rattle.std.specs.Str.{bytes_eq}
 use Rattle.std.proofs.Common.{◌-◌, add-one, append_assoc, pos}
@@ -22,11 +22,11 @@ use Rattle.ncc_tx.specs.Spelled.{entry_fits, rows_value, spelled}
 use Rattle.ncc_tx.specs.declared.entry.Entry.{Entry}
 use Rattle.ncc_tx.specs.declared.entry.Item.{Item}
 use Rattle.ncc_tx.specs.declared.stamp.Stamp.{Stamp}
-use Rattle.ncc_tx.specs.State.{stamps, stamps_from, after, stamp_at}
+use Rattle.ncc_tx.specs.State.{stamps, stamps_from, after}
 use Rattle.ncc_store.specs.Graph.{Graph, empty}
 use Rattle.ncc_apply.specs.View.{stamp_of}
 use Rattle.ncc_world.specs.Events.{is_word}
-use Rattle.ncc_replay.specs.Report.{spaced, rows_text, rows_hex, text_or_hex, parts_of, put_parts, place_line, place_lines}
+use Rattle.ncc_replay.specs.Report.{spaced, rows_text, rows_hex, parts_of, put_parts, place_line, place_lines}
 use Rattle.ncc_replay.specs.Report.{fact_line, work_line, conn_line, out_line, member_line, history_text, report_of, report_by, report_text, no_report}
 use Rattle.ncc_replay.specs.Script.{Script}
 use Rattle.ncc_store.specs.declared.step.Step.{Step}

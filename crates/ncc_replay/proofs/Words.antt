@@ -1,6 +1,6 @@
 -- Words: what has no space in it, and a line cut at its spaces.
 use Rattle.std.proofs.Common.{◌≡◌, ◌≢◌, ℕ, ◌+◌, ◌<◌, ◌≤◌, ◌*◌, ◌/◌, ◌%◌, ◌^◌, ◌==◌, nat_lt, nat_le, true, false, not, ◌&&◌, List}
-use Rattle.std.proofs.Common.{[], ◌∷◌, ◌++◌, length, take, drop, replicate, Option, None, Some, All, inl, inr, refl, sym, ap, ◌∙◌}
+use Rattle.std.proofs.Common.{[], ◌∷◌, length, take, drop, replicate, Option, None, Some, All, inl, inr, refl, sym, ap, ◌∙◌}
 use Rattle.std.proofs.Common.{Bool, subst, arith, codes, decimal, position, slice_index, get_or, lit<, is_some}
 use Rattle.std.specs.Borrow.{Bor}
 use Rattle.std.specs.List.{AllByRecursion, join_with_byte, list_all, position_or_len}

@@ -1,6 +1,6 @@
 -- The rows of each work that has ended in a run have a spelling.
-use Rattle.std.proofs.Common.{◌≡◌, ℕ, zero, suc, ◌+◌, ◌-◌, Bool, true, false, List, [], ◌∷◌, ◌++◌, Option, Some, None, refl, sym, ap, ◌∙◌, subst}
-use Rattle.std.proofs.Common.{length, drop, take, map}
+use Rattle.std.proofs.Common.{◌≡◌, ℕ, suc, ◌+◌, ◌-◌, Bool, true, false, List, [], ◌∷◌, ◌++◌, Option, Some, None, refl, sym, subst}
+use Rattle.std.proofs.Common.{length, take, map}
 use Rattle.std.specs.Prelude.{if◌then◌else◌, slice_get}
 use Rattle.std.specs.List.{AllByRecursion}
 use Rattle.std.proofs.lemmas.List.Elements.{All-from_recursion}
@@ -11,22 +11,21 @@ use Rattle.ncc_driver.specs.declared.action.Input.TheVariants as i
 use Rattle.ncc_driver.specs.Work.{Job}
 use Rattle.ncc_driver.specs.Session.{Begun, acts}
 use Rattle.ncc_driver.specs.Talk.{begun as begun_work}
-use Rattle.ncc_session.specs.declared.ask.Fact.{Fact}
 use Rattle.ncc_clients.specs.Members.{Cluster, Proposed, elsewhere, full, placed}
 use Rattle.ncc_clients.specs.Links.{Link, Driver, Ended, Lifted, Parcel}
 use Rattle.ncc_clients.specs.Run.{Run, Client, Reply, waits, tells, proposes, reply, opened, fed, closed_at, proposed}
-use Rattle.ncc_clients.specs.Turn.{Turn, Turns, Does, Settles}
-use Rattle.ncc_clients.specs.Drives.{feeds_one, feeds, closes_one, closes, driver_at, with_driver, joins_named, member_named, parts, ends}
-use Rattle.ncc_clients.specs.Drives.{does_by, does, does_all, with_input, more, knows, does_more, joined, last_of, follows_on, turns_to}
-use Rattle.ncc_clients.specs.Drives.{told_input, begins_by, begins, feeds_some, goes_up, lifts_by, lifts, comes_down, falls_by, falls}
-use Rattle.ncc_clients.specs.Drives.{cuts_by, cuts, is_due, woken, wakes_from, wakes_all, waits_above, lift_to, all_bytes, less, up_at, rises}
+use Rattle.ncc_clients.specs.Turn.{Turns, Does}
+use Rattle.ncc_clients.specs.Drives.{feeds_one, feeds, closes_one, closes, driver_at, with_driver, joins_named, member_named, parts}
+use Rattle.ncc_clients.specs.Drives.{does_by, does, does_all, with_input, more, knows, does_more, joined, last_of, follows_on}
+use Rattle.ncc_clients.specs.Drives.{told_input, begins_by, feeds_some, lifts_by, lifts, comes_down, falls_by, falls}
+use Rattle.ncc_clients.specs.Drives.{cuts_by, cuts, is_due, woken, wakes_from, waits_above, lift_to, all_bytes, less, up_at, rises}
 use Rattle.ncc_clients.specs.Drives.{descends, Pumps}
 use Rattle.ncc_world.specs.declared.setup.Setup.{Setup}
 use Rattle.ncc_world.specs.declared.event.Event.{Event}
 use Rattle.ncc_world.specs.declared.event.Event.TheVariants as v
 use Rattle.ncc_world.specs.declared.seen.WorkSeen.{WorkSeen}
-use Rattle.ncc_world.specs.Setting.{Lists, cluster_of, nobody}
-use Rattle.ncc_world.specs.Happening.{ListRun, start_of, own, Steps, Happens, RunsOn}
+use Rattle.ncc_world.specs.Setting.{cluster_of}
+use Rattle.ncc_world.specs.Happening.{ListRun, start_of, own, Steps, RunsOn}
 use Rattle.ncc_world.specs.Showing.{work_seen, works_of}
 use Rattle.ncc_replay.specs.Report.{result_fits, WorksFit}
 use Rattle.ncc_replay.proofs.DriverRows.{IsFine, AreFine, acts_fine, fine_behind}
