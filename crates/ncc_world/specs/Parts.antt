@@ -22,6 +22,7 @@ use Rattle.ncc_clients.specs.Run.{question_of, last_rows}
 use Rattle.ncc_clients.specs.Links.{Driver}
 use Rattle.ncc_clients.specs.Drives.{Pumps, driver_at, feeds_some, with_driver}
 use Rattle.ncc_clients.specs.Held.{own}
+use Rattle.ncc_clients.proofs.Lowering.{number}
 use Rattle.ncc_driver.specs.declared.action.Action.{Action}
 use Rattle.ncc_tx.specs.declared.entry.Item.{Item}
 use Rattle.ncc_session.specs.Question.{Question, Row}
@@ -317,9 +318,10 @@ left_after None waiting = Some None
 left_after (Some count) waiting = if nat_le count waiting then None else Some (Some (count - waiting))
 
 -- One move of a pump: the last request that may go up went up and was answered, or nothing was left to move; or there is more to move, and
--- all that waited went up and was answered, or all that was written came down.
+-- all that waited went up and was answered, or all that was written came down, and a number is lower.
 abbrev pub MovesOnce : Setup → ℕ → ℕ → Option ℕ → ListRun → Option (Option ℕ) → Running → Type 0
 MovesOnce s line at limit r None new =
     (t : ListRun) × PumpsOn s line at limit r t × RunsAll s new t
 MovesOnce s line at limit r (Some next) new =
     (m : ListRun) × ((t : ListRun) → PumpsOn s line at next m t → PumpsOn s line at limit r t) × RunsAll s new m
+    × (number (cluster_of s) at m < number (cluster_of s) at r)
