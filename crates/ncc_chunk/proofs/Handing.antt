@@ -2,8 +2,8 @@
 use Rattle.std.proofs.Common.{◌≡◌, ℕ, ◌<◌, Some, None, List, [], ◌∷◌, ◌++◌, length, drop, ◌⊎◌, inl, inr, refl, sym, ap, subst, ◌∙◌}
 use Rattle.std.proofs.Common.{append-nil, length-append, arith}
 use Rattle.std.proofs.lemmas.List.{append_cancel_left}
-use Rattle.ncc_chunk.specs.declared.dechunker.Place.{Place}
-use Rattle.ncc_chunk.specs.declared.dechunker.Place.TheVariants.{Between, InHead, InBody, Stopped}
+use Rattle.ncc_chunk.specs.declared.dechunker.Position.{Position}
+use Rattle.ncc_chunk.specs.declared.dechunker.Position.TheVariants.{Between, InHead, InBody, Stopped}
 use Rattle.ncc_chunk.specs.declared.dechunker.Dechunk.TheVariants.{Again, TooLong}
 use Rattle.ncc_chunk.specs.Chunks.{none, Framed, nothing, PastLimit, EndsAfter, IsTooLongAfter, IsNextAfter, IsBetweenMessages}
 use Rattle.ncc_chunk.specs.Inflow.{Inflow, IsBetween, Holds, Stands, IsPastLimit}
@@ -44,7 +44,7 @@ module _ (a : Inflow) (m : List ℕ) (ms : List (List ℕ)) (is : a.ready ≡
   next_after = (ms, k.rest, framed)
 
 -- what is held below the limit is not past it
-pub holds_fits : (p : Place) (body r : List ℕ) → missing_at p ≡ Again → Holds p body r → PastLimit r → ⊥
+pub holds_fits : (p : Position) (body r : List ℕ) → missing_at p ≡ Again → Holds p body r → PastLimit r → ⊥
 holds_fits Between body r e h o = let f = h.fits in not_past_cut body r [] h.whole tt (omega arith) (subst PastLimit (sym (append-nil r)) o)
 holds_fits (InHead first) body r e h o = let f = h.fits in
     not_past_cut body h.chunks (first ∷ []) h.whole tt (omega arith) (subst PastLimit h.rest_is o)
@@ -57,19 +57,19 @@ holds_fits (InBody left) body r e h o =
     not_past_cut h.message h.chunks (h.high ∷ h.low ∷ h.part) h.whole (omega arith) (omega arith) (subst PastLimit h.rest_is o)
 holds_fits Stopped body r e h o = absurd (cc)
 
-pub holds_long : (p : Place) (body r : List ℕ) → missing_at p ≡ TooLong → Holds p body r → PastLimit r
+pub holds_long : (p : Position) (body r : List ℕ) → missing_at p ≡ TooLong → Holds p body r → PastLimit r
 holds_long Between body r e h = absurd (cc)
 holds_long (InHead _) body r e h = absurd (cc)
 holds_long (InBody _) body r e h = absurd (cc)
 holds_long Stopped body r e h = h
 
-pub missing_is : (p : Place) → (missing_at p ≡ Again) ⊎ (missing_at p ≡ TooLong)
+pub missing_is : (p : Position) → (missing_at p ≡ Again) ⊎ (missing_at p ≡ TooLong)
 missing_is Between = inl refl
 missing_is (InHead _) = inl refl
 missing_is (InBody _) = inl refl
 missing_is Stopped = inr refl
 
-pub missing_stopped : (p : Place) → missing_at p ≡ TooLong → p ≡ Stopped
+pub missing_stopped : (p : Position) → missing_at p ≡ TooLong → p ≡ Stopped
 missing_stopped Between e = absurd (cc)
 missing_stopped (InHead _) e = absurd (cc)
 missing_stopped (InBody _) e = absurd (cc)
@@ -114,7 +114,7 @@ module _ (a : Inflow) (is : a.ready ≡ []) (stream : List ℕ) (handed : List (
       (framed_same stream stream handed (handed ++ message ∷ more) k.rest rest refl framed_all f).0
 
 -- nothing is held exactly where nothing has come
-holds_nothing : (p : Place) (body r : List ℕ) → Holds p body r → r ≡ [] → (p ≡ Between) × (body ≡ [])
+holds_nothing : (p : Position) (body r : List ℕ) → Holds p body r → r ≡ [] → (p ≡ Between) × (body ≡ [])
 holds_nothing Between body r h e = (refl, chunks_in_none body r h.whole e)
 holds_nothing (InHead first) body r h e = let l = simp length-append at (ap length (sym h.rest_is ∙ e)) in absurd (omega arith)
 holds_nothing (InBody left) body r h e = let l = simp length-append at (ap length (sym h.rest_is ∙ e)) in absurd (omega arith)

@@ -1,8 +1,8 @@
 -- Every stream can be read.
 use Rattle.std.proofs.Common.{◌≡◌, ℕ, ◌+◌, List, [], ◌∷◌, length, ◌⊎◌, inl, inr, refl, subst, arith}
 use Rattle.std.proofs.lemmas.Bool.{cases_lt}
-use Rattle.ncc_chunk.specs.declared.dechunker.Place.{Place}
-use Rattle.ncc_chunk.specs.declared.dechunker.Place.TheVariants.{Between, InHead, InBody, Stopped}
+use Rattle.ncc_chunk.specs.declared.dechunker.Position.{Position}
+use Rattle.ncc_chunk.specs.declared.dechunker.Position.TheVariants.{Between, InHead, InBody, Stopped}
 use Rattle.ncc_chunk.specs.Chunks.{size_of, limit, EndsAfter, IsTooLongAfter}
 use Rattle.ncc_chunk.specs.Inflow.{Inflow, IsInBody, Holds}
 use Rattle.ncc_chunk.specs.Keeping.{Took}
@@ -10,7 +10,7 @@ use Rattle.ncc_chunk.proofs.Steps.{begins_as, took_none, took_then, step_stopped
 use Rattle.ncc_chunk.proofs.Handing.{stands_new, missing_is, holds_fits, holds_long}
 
 -- one more byte, by the place
-one_byte : (a : Inflow) (p : Place) → a.place ≡ p → (b : ℕ) → (c : Inflow) × Took a (b ∷ []) c
+one_byte : (a : Inflow) (p : Position) → a.place ≡ p → (b : ℕ) → (c : Inflow) × Took a (b ∷ []) c
 one_byte a Between e b = (_, step_first a b e)
 one_byte a (InHead h) e b = elim (cases_lt 0 (size_of h b)) [
   | inr none ↦ (_, step_end a h b e (omega arith))

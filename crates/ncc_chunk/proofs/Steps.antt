@@ -1,8 +1,8 @@
 -- What each step of a dechunker leaves.
 use Rattle.std.proofs.Common.{◌≡◌, ℕ, zero, suc, ◌+◌, ◌-◌, ◌<◌, ◌≤◌, List, [], ◌∷◌, ◌++◌, length, refl, sym, ap, subst, ◌∙◌}
 use Rattle.std.proofs.Common.{append_assoc, append-nil, length-append, arith}
-use Rattle.ncc_chunk.specs.declared.dechunker.Place.{Place}
-use Rattle.ncc_chunk.specs.declared.dechunker.Place.TheVariants.{Between, InHead, InBody, Stopped}
+use Rattle.ncc_chunk.specs.declared.dechunker.Position.{Position}
+use Rattle.ncc_chunk.specs.declared.dechunker.Position.TheVariants.{Between, InHead, InBody, Stopped}
 use Rattle.ncc_chunk.specs.Chunks.{size_of, Chunks, none, chunk, limit, Spells, HoldsNone, Framed, nothing, no_op, message, PastLimit}
 use Rattle.ncc_chunk.specs.Inflow.{Inflow, IsInBody, IsInHead, IsBetween, Holds, Stands}
 use Rattle.ncc_chunk.specs.Keeping.{Begins, Took, place_by, grown, ready_with, ended}
@@ -11,7 +11,7 @@ use Rattle.ncc_chunk.proofs.WholeChunks.{chunks_join}
 use Rattle.ncc_chunk.proofs.Framing.{framed_on, none_in_cut, none_in_past, past_on}
 
 -- what is held is no whole message
-pub holds_none : (p : Place) (body r : List ℕ) → Holds p body r → HoldsNone r
+pub holds_none : (p : Position) (body r : List ℕ) → Holds p body r → HoldsNone r
 holds_none Between body r h = subst HoldsNone (append-nil r) (none_in_cut body r [] h.whole tt)
 holds_none (InHead first) body r h = subst HoldsNone (sym h.rest_is) (none_in_cut body h.chunks (first ∷ []) h.whole tt)
 holds_none (InBody left) body r h = subst HoldsNone (sym h.rest_is)

@@ -1,7 +1,7 @@
 -- What a dechunker keeps, and which streams it stands for (Bolt Protocol message specification, the section on chunking).
 use Rattle.std.specs.Prelude.{◌≡◌, ℕ, ◌+◌, ◌<◌, ◌≤◌, List, [], ◌∷◌, ◌++◌, length, ◌↔◌}
-use Rattle.ncc_chunk.specs.declared.dechunker.Place.{Place}
-use Rattle.ncc_chunk.specs.declared.dechunker.Place.TheVariants.{Between, InHead, InBody, Stopped}
+use Rattle.ncc_chunk.specs.declared.dechunker.Position.{Position}
+use Rattle.ncc_chunk.specs.declared.dechunker.Position.TheVariants.{Between, InHead, InBody, Stopped}
 use Rattle.ncc_chunk.specs.Chunks.{Chunks, Framed, PastLimit, IsTooLongAfter, size_of, limit}
 
 -- what a dechunker keeps: none of the stream's bytes but bodies, and at most one byte of a head
@@ -10,7 +10,7 @@ pub record Inflow : Type 0 where
   pub ready : List (List ℕ)
   -- the bodies of the next message's chunks, as far as they have come
   pub body : List ℕ
-  pub place : Place
+  pub place : Position
 
 -- The rest is whole chunks and a part of one more, and these are the bodies in it. So many bytes of the last are still to come.
 pub record IsInBody (left : ℕ) (body rest : List ℕ) : Type 0 where
@@ -39,7 +39,7 @@ pub record IsBetween (body rest : List ℕ) : Type 0 where
   pub fits : length body ≤ limit
 
 -- what has come of the next message, by the place in it
-abbrev pub Holds : Place → List ℕ → List ℕ → Type 0
+abbrev pub Holds : Position → List ℕ → List ℕ → Type 0
 Holds Between body rest = IsBetween body rest
 Holds (InHead first) body rest = IsInHead first body rest
 Holds (InBody left) body rest = IsInBody left body rest

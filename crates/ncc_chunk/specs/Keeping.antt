@@ -3,8 +3,8 @@
 use Rattle.std.specs.Prelude.{◌≡◌, ℕ, zero, suc, ◌+◌, ◌-◌, ◌<◌, ◌≤◌, List, [], ◌∷◌, ◌++◌, length, drop, Option, Some, None}
 use Rattle.ncc_chunk.specs.declared.dechunker.Dechunk.{Dechunk}
 use Rattle.ncc_chunk.specs.declared.dechunker.Dechunk.TheVariants.{Again, TooLong}
-use Rattle.ncc_chunk.specs.declared.dechunker.Place.{Place}
-use Rattle.ncc_chunk.specs.declared.dechunker.Place.TheVariants.{Between, InBody, Stopped}
+use Rattle.ncc_chunk.specs.declared.dechunker.Position.{Position}
+use Rattle.ncc_chunk.specs.declared.dechunker.Position.TheVariants.{Between, InBody, Stopped}
 use Rattle.ncc_chunk.specs.Chunks.{limit}
 use Rattle.ncc_chunk.specs.Inflow.{Inflow, Stands}
 
@@ -20,12 +20,12 @@ pub record Took (before : Inflow) (bytes : List ℕ) (after : Inflow) : Type 0 w
   pub begins : Begins before.ready before.body (after.ready ++ after.body ∷ [])
 
 -- So long a body is held at this place: within the limit, with what is still to come of a chunk's body, which is some.
-abbrev pub IsWithin : Place → ℕ → Type 0
+abbrev pub IsWithin : Position → ℕ → Type 0
 IsWithin (InBody left) held = (0 < left) × (held + left ≤ limit)
 IsWithin _ held = held ≤ limit
 
 -- the place in a body of which so many bytes are still to come
-abbrev pub place_by : ℕ → Place
+abbrev pub place_by : ℕ → Position
 place_by zero = Between
 place_by (suc n) = InBody (suc n)
 
@@ -43,7 +43,7 @@ abbrev pub ended : Inflow → Inflow
 ended state = record { ready = ready_with state.ready state.body; body = []; place = Between }
 
 -- why no message is ready
-abbrev pub missing_at : Place → Dechunk
+abbrev pub missing_at : Position → Dechunk
 missing_at Stopped = TooLong
 missing_at _ = Again
 

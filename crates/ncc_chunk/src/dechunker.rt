@@ -17,7 +17,7 @@ const LIMIT: usize = 1_048_576;
 
 /// Where in the next message the stream stands.
 #[derive(Clone, Copy, Debug, PartialEq, Eq)]
-pub enum Place {
+pub enum Position {
     /// Behind a whole chunk, or before the first.
     Between,
     /// Behind the first byte of a chunk's head.
@@ -49,7 +49,7 @@ pub enum Dechunk {
 pub struct Dechunker {
     ready: VecDeque<Vec<u8>>,
     body: Vec<u8>,
-    place: Place,
+    place: Position,
     alloc: Global,
 }
 
@@ -74,7 +74,7 @@ impl Dechunker {
         Ok(Dechunker {
             ready: VecDeque::new(alloc),
             body: Vec::new(alloc),
-            place: Place::Between,
+            place: Position::Between,
             alloc,
         })
     }
@@ -121,7 +121,7 @@ impl Dechunker {
         ensures between { ExactlyAt (λ stream handed. IsBetweenMessages stream) self.now (IsTrue result) }
     {
         match self.place {
-            Place::Between => self.body.is_empty(),
+            Position::Between => self.body.is_empty(),
             _ => false,
         }
     }
@@ -142,13 +142,13 @@ impl Dechunker {
         ensures { result ≡ missing_at self.now.place }
     {
         match self.place {
-            Place::Stopped => Dechunk::TooLong,
+            Position::Stopped => Dechunk::TooLong,
             _ => Dechunk::Again,
         }
     }
 
     // How many messages are ready, how long the body is, and the place.
-    fn mark(&self) -> (usize, usize, Place)
+    fn mark(&self) -> (usize, usize, Position)
         ensures ready { result.0 ≡ length self.now.ready }
         ensures body { result.1 ≡ length self.now.body }
         ensures place { result.2 ≡ self.now.place }
@@ -162,7 +162,7 @@ impl Dechunker {
         ensures ok { OnOk result (Took self.old piece.now self.new) }
         ensures err { OnErr result (Begins self.old.ready self.old.body (self.new.ready ++ self.new.body ∷ [])) }
         ensures bounded { length self.old.body ≤ limit → length self.new.body ≤ limit }
-        ensures stopped { self.old.place ≡ Place.Stopped → self.new ≡ self.old }
+        ensures stopped { self.old.place ≡ Position.Stopped → self.new ≡ self.old }
     {
         let mut at = 0;
         while at < piece.len() {
@@ -178,25 +178,25 @@ impl Dechunker {
         ensures ok { IfOk result (λ n. Took self.old (take n piece.now) self.new) }
         ensures err { OnErr result (self.new ≡ self.old) }
         ensures bounded { length self.new.body ≤ limit }
-        ensures stopped { self.old.place ≡ Place.Stopped → self.new ≡ self.old }
+        ensures stopped { self.old.place ≡ Position.Stopped → self.new ≡ self.old }
     {
         match self.place {
-            Place::Between => {
-                self.place = Place::InHead { first: piece[0] };
+            Position::Between => {
+                self.place = Position::InHead { first: piece[0] };
                 Ok(1)
             }
-            Place::InHead { first } => {
+            Position::InHead { first } => {
                 self.take_head(first, piece[0])?;
                 Ok(1)
             }
-            Place::InBody { left } => self.take_body(left, piece),
-            Place::Stopped => Ok(piece.len()),
+            Position::InBody { left } => self.take_body(left, piece),
+            Position::Stopped => Ok(piece.len()),
         }
     }
 
     // Takes the second byte of a chunk's head. An `Err` changes nothing.
     fn take_head(&mut self, first: u8, second: u8) -> Result<(), AllocError>
-        requires { self.old.place ≡ Place.InHead first }
+        requires { self.old.place ≡ Position.InHead first }
         ensures ok { OnOk result (Took self.old (second ∷ []) self.new) }
         ensures err { OnErr result (self.new ≡ self.old) }
         ensures bounded { length self.new.body ≤ limit }
@@ -220,13 +220,13 @@ impl Dechunker {
             let message = std::mem::replace(&mut self.body, Vec::new(self.alloc));
             self.ready.push_back_reserved(message);
         }
-        self.place = Place::Between;
+        self.place = Position::Between;
         Ok(())
     }
 
     // Takes a part of a chunk's body, and says how much. An `Err` changes nothing.
     fn take_body(&mut self, left: usize, piece: &[u8]) -> Result<usize, AllocError>
-        requires place { self.old.place ≡ Place.InBody left }
+        requires place { self.old.place ≡ Position.InBody left }
         requires some { 0 < left }
         requires some_piece { 0 < length piece.now }
         ensures within { IfOk result (λ n. (0 < n) × (n ≤ length piece.now)) }
@@ -242,7 +242,7 @@ impl Dechunker {
     }
 
     // Puts back what was kept before: so many messages, so long a body, and the place.
-    fn restore(&mut self, ready: usize, body: usize, place: Place)
+    fn restore(&mut self, ready: usize, body: usize, place: Position)
         requires place { IsWithin place body }
         ensures { (rs : List (List ℕ)) (b : List ℕ) → ready ≡ length rs → body ≡ length b
             → Begins rs b (self.old.ready ++ self.old.body ∷ []) → self.new ≡ record { ready = rs; body = b; place = place } }
@@ -270,25 +270,25 @@ fn cut_back(ready: &mut VecDeque<Vec<u8>>, count: usize) -> Option<Vec<u8>>
 }
 
 // Where a head leads whose chunk has so many bytes, in a message of which so many are held.
-fn place_after(size: usize, held: usize) -> Place
+fn place_after(size: usize, held: usize) -> Position
     requires { 0 < size }
-    ensures stopped { limit < held + size → result ≡ Place.Stopped }
-    ensures body { held + size ≤ limit → result ≡ Place.InBody size }
+    ensures stopped { limit < held + size → result ≡ Position.Stopped }
+    ensures body { held + size ≤ limit → result ≡ Position.InBody size }
 {
     if size > LIMIT.saturating_sub(held) {
-        Place::Stopped
+        Position::Stopped
     } else {
-        Place::InBody { left: size }
+        Position::InBody { left: size }
     }
 }
 
 // Where a body stands of which so many bytes are still to come.
-fn behind(left: usize) -> Place
+fn behind(left: usize) -> Position
     ensures { result ≡ place_by left }
 {
     if left == 0 {
-        Place::Between
+        Position::Between
     } else {
-        Place::InBody { left }
+        Position::InBody { left }
     }
 }

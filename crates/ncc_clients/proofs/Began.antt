@@ -24,7 +24,7 @@ use Rattle.ncc_driver.specs.declared.answers.Told.TheVariants as says
 use Rattle.ncc_driver.specs.declared.work.WorkStep.{WorkStep}
 use Rattle.ncc_driver.specs.declared.work.WorkStep.TheVariants as w
 use Rattle.ncc_driver.specs.Work.{Job}
-use Rattle.ncc_driver.specs.State.{Place, Turned, new_core}
+use Rattle.ncc_driver.specs.State.{SessionState, Turned, new_core}
 use Rattle.ncc_driver.specs.Attempts.{retries, is_spent, is_transient, is_no_leader, fails, drops_table, at_core, joins, joins_server}
 use Rattle.ncc_driver.specs.Attempts.{joins_by, router_of, one_more, role_of, drawn, addresses_in, opened, is_fresh, attempts}
 use Rattle.ncc_driver.specs.Attempts.{so_far, takes_step, follows_hello, follows, keeps_table, behind}
@@ -46,42 +46,42 @@ module _ (began : ℕ) where
   if_keeps true t u h k = h
   if_keeps false t u h k = k
 
-  retried : (p : Place) (now : ℕ) (reason : Last) → p.core.began ≡ began → Keeps (retries p now reason)
+  retried : (p : SessionState) (now : ℕ) (reason : Last) → p.core.began ≡ began → Keeps (retries p now reason)
   retried p now reason h = if_keeps (is_spent now p.core.began) _ _ h h
 
-  fell : (p : Place) (now : ℕ) (code : List ℕ) → p.core.began ≡ began → Keeps (fails p now code)
+  fell : (p : SessionState) (now : ℕ) (code : List ℕ) → p.core.began ≡ began → Keeps (fails p now code)
   fell p now code h =
       if_keeps (is_transient code) _ _ (retried p now _ h) (if_keeps (is_no_leader code) _ _ (retried (drops_table p) now _ h) h)
 
-  joined : (p : Place) (now : ℕ) (role : Role) (core : Core) (found : Option Value) → core.began ≡ began
+  joined : (p : SessionState) (now : ℕ) (role : Role) (core : Core) (found : Option Value) → core.began ≡ began
       → Keeps (joins p now role core found)
   joined p now role core (Some (v.Text address)) h = h
   joined p now role core _ h = retried (drops_table (at_core p core)) now _ h
 
-  joined_server : (writes : Bool) (p : Place) (now : ℕ) → p.core.began ≡ began → Keeps (joins_server writes p now)
+  joined_server : (writes : Bool) (p : SessionState) (now : ℕ) → p.core.began ≡ began → Keeps (joins_server writes p now)
   joined_server writes p now h =
       joined p now (role_of writes) (drawn p.core) (picked (pcg32 p.core.words).0 (addresses_in (role_of writes) p.core.table)) h
 
-  joined_by : (p : Place) (core : Core) (found : Option Value) → core.began ≡ began → Keeps (joins_by p core found)
+  joined_by : (p : SessionState) (core : Core) (found : Option Value) → core.began ≡ began → Keeps (joins_by p core found)
   joined_by p core (Some (v.Text address)) h = h
   joined_by p core _ h = h
 
-  attempted : (config : SessionConfig) (writes : Bool) (p : Place) (now : ℕ) → p.core.began ≡ began
+  attempted : (config : SessionConfig) (writes : Bool) (p : SessionState) (now : ℕ) → p.core.began ≡ began
       → Keeps (attempts config writes p now)
   attempted config writes p now h =
       let q = opened p in
       if_keeps (is_fresh now p.core.table) _ _ (joined_server writes q now h)
       (joined_by q (record q.core { connects = one_more q.core.connects }) (router_of config q.core) h)
 
-  stepped : (p : Place) (step : WorkStep) → p.core.began ≡ began → Keeps (takes_step p step)
+  stepped : (p : SessionState) (step : WorkStep) → p.core.began ≡ began → Keeps (takes_step p step)
   stepped p (w.Run query params) h = h
   stepped p w.Commit h = h
 
-  greeted : (writes : Bool) (p : Place) (leg : Leg) → p.core.began ≡ began → Keeps (follows_hello writes p leg)
+  greeted : (writes : Bool) (p : SessionState) (leg : Leg) → p.core.began ≡ began → Keeps (follows_hello writes p leg)
   greeted writes p Routing h = h
   greeted writes p Working h = h
 
-  followed : (config : SessionConfig) (job : Job) (p : Place) (asked : Asked) → p.core.began ≡ began → Keeps (follows config job p asked)
+  followed : (config : SessionConfig) (job : Job) (p : SessionState) (asked : Asked) → p.core.began ≡ began → Keeps (follows config job p asked)
   followed config job p (a.Shake leg) h = h
   followed config job p (a.Hello leg) h = greeted job.writes p leg h
   followed config job p a.Begin h = stepped (record { core = p.core; told = Some [] }) (job.steps []) h
@@ -91,7 +91,7 @@ module _ (began : ℕ) where
   followed config job p a.Route h = h
   followed config job p a.Commit h = h
 
-  answered : (config : SessionConfig) (job : Job) (now : ℕ) (p : Place) (asked : Asked) (number : ℕ) (told : Told) → p.core.began ≡ began
+  answered : (config : SessionConfig) (job : Job) (now : ℕ) (p : SessionState) (asked : Asked) (number : ℕ) (told : Told) → p.core.began ≡ began
       → Keeps (behind config job now p asked number told)
   answered config job now p asked number says.Done h = followed config job p asked h
   answered config job now p asked number (says.Row fields) h = h

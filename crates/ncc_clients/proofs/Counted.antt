@@ -32,7 +32,7 @@ use Rattle.ncc_driver.specs.declared.work.WorkStep.{WorkStep}
 use Rattle.ncc_driver.specs.declared.work.WorkStep.TheVariants as w
 use Rattle.ncc_driver.specs.Work.{Job}
 use Rattle.ncc_driver.specs.Requests.{closes, shake_bytes}
-use Rattle.ncc_driver.specs.State.{Place, Turned}
+use Rattle.ncc_driver.specs.State.{SessionState, Turned}
 use Rattle.ncc_driver.specs.Attempts.{retries, is_spent, is_transient, is_no_leader, fails_by, drops_table, at_core, joins, joins_server}
 use Rattle.ncc_driver.specs.Attempts.{joins_by, router_of, one_more, role_of, drawn, addresses_in, opened, is_fresh, attempts}
 use Rattle.ncc_driver.specs.Attempts.{so_far, takes_step, follows_hello, follows, keeps_table, behind}
@@ -175,10 +175,10 @@ if_sends false t u h k = k
 none_sent : {A : Type 0} → false ≡ true → A
 none_sent e = absurd (let f : false ≡ true = e in cc)
 
-retried : (p : Place) (now : ℕ) (reason : Last) → Sends (retries p now reason)
+retried : (p : SessionState) (now : ℕ) (reason : Last) → Sends (retries p now reason)
 retried p now reason = if_sends (is_spent now p.core.began) _ _ (λ e. none_sent e) (λ e. none_sent e)
 
-fell : (p : Place) (now : ℕ) (code : List ℕ) → Sends (fails_by p now code)
+fell : (p : SessionState) (now : ℕ) (code : List ℕ) → Sends (fails_by p now code)
 fell p now code =
     if_sends (is_transient code) _ _ (retried p now _) (if_sends (is_no_leader code) _ _ (retried (drops_table p) now _) (λ e. none_sent e))
 
@@ -186,33 +186,33 @@ fell p now code =
 closed : (actions : List Action) → Counted actions → Counted (closes ++ actions)
 closed actions h e = trans (messages_in actions) (messages_in (closes ++ actions)) (h e) (last_less closes actions)
 
-joined : (p : Place) (now : ℕ) (role : Role) (core : Core) (found : Option Value) → Sends (joins p now role core found)
+joined : (p : SessionState) (now : ℕ) (role : Role) (core : Core) (found : Option Value) → Sends (joins p now role core found)
 joined p now role core (Some (v.Text address)) = λ e. none_sent e
 joined p now role core _ = retried (drops_table (at_core p core)) now _
 
-joined_server : (writes : Bool) (p : Place) (now : ℕ) → Sends (joins_server writes p now)
+joined_server : (writes : Bool) (p : SessionState) (now : ℕ) → Sends (joins_server writes p now)
 joined_server writes p now =
     joined p now (role_of writes) (drawn p.core) (picked (pcg32 p.core.words).0 (addresses_in (role_of writes) p.core.table))
 
-joined_by : (p : Place) (core : Core) (found : Option Value) → Sends (joins_by p core found)
+joined_by : (p : SessionState) (core : Core) (found : Option Value) → Sends (joins_by p core found)
 joined_by p core (Some (v.Text address)) = λ e. none_sent e
 joined_by p core _ = λ e. none_sent e
 
-attempted : (config : SessionConfig) (writes : Bool) (p : Place) (now : ℕ) → Sends (attempts config writes p now)
+attempted : (config : SessionConfig) (writes : Bool) (p : SessionState) (now : ℕ) → Sends (attempts config writes p now)
 attempted config writes p now =
     let q = opened p in
     if_sends (is_fresh now p.core.table) _ _ (joined_server writes q now)
     (joined_by q (record q.core { connects = one_more q.core.connects }) (router_of config q.core))
 
-stepped : (p : Place) (step : WorkStep) → Sends (takes_step p step)
+stepped : (p : SessionState) (step : WorkStep) → Sends (takes_step p step)
 stepped p (w.Run query params) = sent_counts _ (not_goodbye 179 _ refl)
 stepped p w.Commit = sent_counts _ commit_counts
 
-greeted : (writes : Bool) (p : Place) (leg : Leg) → Sends (follows_hello writes p leg)
+greeted : (writes : Bool) (p : SessionState) (leg : Leg) → Sends (follows_hello writes p leg)
 greeted writes p Routing = sent_counts _ (not_goodbye 179 _ refl)
 greeted writes p Working = sent_counts _ (not_goodbye 177 _ refl)
 
-followed : (config : SessionConfig) (job : Job) (p : Place) (asked : Asked) → Sends (follows config job p asked)
+followed : (config : SessionConfig) (job : Job) (p : SessionState) (asked : Asked) → Sends (follows config job p asked)
 followed config job p (a.Shake leg) = sent_counts _ (not_goodbye 177 _ refl)
 followed config job p (a.Hello leg) = greeted job.writes p leg
 followed config job p a.Begin = stepped (record { core = p.core; told = Some [] }) (job.steps [])
@@ -222,7 +222,7 @@ followed config job p a.Pull =
 followed config job p a.Route = λ e. none_sent e
 followed config job p a.Commit = λ e. none_sent e
 
-answered : (config : SessionConfig) (job : Job) (now : ℕ) (p : Place) (asked : Asked) (number : ℕ) (told : Told)
+answered : (config : SessionConfig) (job : Job) (now : ℕ) (p : SessionState) (asked : Asked) (number : ℕ) (told : Told)
     → Sends (behind config job now p asked number told)
 answered config job now p asked number says.Done = followed config job p asked
 answered config job now p asked number (says.Row fields) = λ e. none_sent e

@@ -14,7 +14,7 @@ use Rattle.ncc_driver.specs.declared.action.Input.TheVariants as i
 use Rattle.ncc_driver.specs.declared.action.WorkDone.{WorkDone}
 use Rattle.ncc_driver.specs.declared.action.WorkError.TheVariants as e
 use Rattle.ncc_driver.specs.declared.action.Last.TheVariants as last
-use Rattle.ncc_driver.specs.State.{Place, Turned}
+use Rattle.ncc_driver.specs.State.{SessionState, Turned}
 use Rattle.ncc_driver.specs.Attempts.{is_spent, finishes, sleeps, loses, drops_table}
 use Rattle.ncc_driver.specs.Session.{State, Ran, Moved, Begun, on, session}
 use Rattle.ncc_driver.specs.Talk.{grown}
@@ -88,7 +88,7 @@ calm_if : (b : Bool) (x y : Turned) → is_joining x.place.core.stage ≡ false 
 calm_if true x y h k = h
 calm_if false x y h k = k
 
-pub lost_stage : (p : Place) (now : ℕ) → is_joining (loses p now).place.core.stage ≡ false
+pub lost_stage : (p : SessionState) (now : ℕ) → is_joining (loses p now).place.core.stage ≡ false
 lost_stage p now = calm_if (is_spent now (drops_table p).core.began)
     (finishes (drops_table p) (Err (e.RetriesSpent (drops_table p).core.attempts last.LinkLost))) (sleeps (drops_table p) now) refl refl
 

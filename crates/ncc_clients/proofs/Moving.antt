@@ -11,7 +11,7 @@ use Rattle.ncc_session.specs.declared.state.ConnState.{ConnState}
 use Rattle.ncc_session.specs.declared.state.ConnState.TheVariants.{Connected, Ended}
 use Rattle.ncc_session.specs.declared.ask.Fact.{Fact}
 use Rattle.ncc_session.specs.Question.{Question, wrote, fits}
-use Rattle.ncc_session.specs.Core.{Next, Doing, idle, opened, asks, Place}
+use Rattle.ncc_session.specs.Core.{Next, Doing, idle, opened, asks, Situation}
 use Rattle.ncc_session.specs.Turns.{Turned, freed, goes, heard}
 use Rattle.ncc_session.specs.Session.{Input, shaken, Standing, on_live, on_input, reads, hears, acts, goes_by, move, start}
 use Rattle.ncc_session.specs.Session.{is_ended}
@@ -52,7 +52,7 @@ module _ {C E F W : Type 0} (move : Move C E F W) (Q : C → List E → List F �
 abbrev pub stand : Turned → List Input → List Fact → Standing
 stand turn inputs facts = record { core = turn.place; items = inputs; facts = facts; written = turn.written }
 
-pub data Moved (config : ConnConfig) (p : Place) : List Input → List Fact → Standing → Type 0 where
+pub data Moved (config : ConnConfig) (p : Situation) : List Input → List Fact → Standing → Type 0 where
   -- after the end what comes is dropped
   drops : (i : Input) (is : List Input) (fs : List Fact) → is_ended p.state ≡ true
       → Moved config p (i ∷ is) fs (stand (goes p p.state p.doing []) is fs)
@@ -66,16 +66,16 @@ pub data Moved (config : ConnConfig) (p : Place) : List Input → List Fact → 
 same_stand : (a b : Standing) → Some a ≡ Some b → a ≡ b
 same_stand a b e = cc
 
-live_is : (config : ConnConfig) (p : Place) (s : ConnState) (i : Input) → is_ended s ≡ false → on_input config p s i ≡ on_live config p i
+live_is : (config : ConnConfig) (p : Situation) (s : ConnState) (i : Input) → is_ended s ≡ false → on_input config p s i ≡ on_live config p i
 live_is config p (Ended why) i e = absurd (cc)
 live_is config p _ i e = refl
 
-ended_is : (config : ConnConfig) (p : Place) (s : ConnState) (i : Input) → is_ended s ≡ true
+ended_is : (config : ConnConfig) (p : Situation) (s : ConnState) (i : Input) → is_ended s ≡ true
     → on_input config p s i ≡ goes p p.state p.doing []
 ended_is config p (Ended why) i e = refl
 ended_is config p _ i e = absurd (cc)
 
-module _ (config : ConnConfig) (p : Place) where
+module _ (config : ConnConfig) (p : Situation) where
   read_drops : (is : List Input) (fs : List Fact) (t : Standing) → is_ended p.state ≡ true → reads config p is fs ≡ Some t
       → Moved config p is fs t
   read_drops [] fs t e h = absurd (cc)
@@ -120,7 +120,7 @@ module _ (config : ConnConfig) (p : Place) where
 -- ---- the handshake
 
 -- where a session stands behind it
-abbrev pub connected : Place
+abbrev pub connected : Situation
 connected = record { state = Connected; number = 0; doing = idle }
 
 abbrev pub chosen : List ℕ

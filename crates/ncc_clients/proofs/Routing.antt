@@ -17,7 +17,7 @@ use Rattle.ncc_session.specs.declared.ask.Fact.{Fact}
 use Rattle.ncc_session.specs.declared.ask.Fact.TheVariants as f
 use Rattle.ncc_session.specs.Checks.{Checked, is_welcome, need_of}
 use Rattle.ncc_session.specs.Question.{Question, leave, route, Row, Output, questions_of}
-use Rattle.ncc_session.specs.Core.{Next, routes, Doing, idle, asks, Place}
+use Rattle.ncc_session.specs.Core.{Next, routes, Doing, idle, asks, Situation}
 use Rattle.ncc_session.specs.Replies.{hello_meta}
 use Rattle.ncc_session.specs.Table.{turn_of}
 use Rattle.ncc_session.specs.Turns.{Turned, rests, fails, puts, refuses, asks_route, answered, refusal_of, after_route, heard}
@@ -62,7 +62,7 @@ module _ (config : ConnConfig) where
   abbrev Goes : Turned → List Request → List Question → Type 0
   Goes turn qs xs = After config questions_of Stage turn qs xs
 
-  abbrev at : ConnState → Doing → ℕ → Place
+  abbrev at : ConnState → Doing → ℕ → Situation
   at s d number = record { state = s; number = number; doing = d }
 
   quiet : (turn : Turned) (qs : List Request) (xs : List Question) → questions_of turn.written ≡ []
@@ -74,12 +74,12 @@ module _ (config : ConnConfig) where
   after_if true x y qs xs h k = h
   after_if false x y qs xs h k = k
 
-  after_check : {A : Type 0} (p : Place) (x : Checked A) (go : A → Turned) (qs : List Request) (xs : List Question) → MayLeave qs
+  after_check : {A : Type 0} (p : Situation) (x : Checked A) (go : A → Turned) (qs : List Request) (xs : List Question) → MayLeave qs
       → Routes xs → ((a : A) → Goes (go a) qs xs) → Goes (elim x [ Err refusal ↦ fails p refusal | Ok a ↦ go a ]) qs xs
   after_check p (Err refusal) go qs xs h all k = quiet (fails p refusal) qs xs refl (h, all)
   after_check p (Ok a) go qs xs h all k = k a
 
-  hello_after : (p : Place) (b : Bool) (qs : List Request) (xs : List Question) → IsRouting qs → Routes xs
+  hello_after : (p : Situation) (b : Bool) (qs : List Request) (xs : List Question) → IsRouting qs → Routes xs
       → Goes (if b then rests p Ready (hello_meta config.conn) else refuses p r.Unauthorized) qs xs
   hello_after p b qs xs h all =
       after_if b (rests p Ready (hello_meta config.conn)) (refuses p r.Unauthorized) qs xs
@@ -93,7 +93,7 @@ module _ (config : ConnConfig) where
   at_connected number q.Goodbye qs xs h all = quiet _ qs xs refl all
   at_connected number _ qs xs h all = absurd h
 
-  route_after : (p : Place) (bookmarks : List Value) (extra : Pairs) (qs : List Request) (xs : List Question) → p.state ≡ Ready
+  route_after : (p : Situation) (bookmarks : List Value) (extra : Pairs) (qs : List Request) (xs : List Question) → p.state ≡ Ready
       → MayLeave qs → Routes xs → Goes (asks_route config p bookmarks extra) qs xs
   route_after p bookmarks extra qs xs ready h all =
       after_check p (need_of config.members.cluster (Some (v.List bookmarks)) extra) (λ need. puts p route routes) qs xs h all
@@ -128,7 +128,7 @@ module _ (config : ConnConfig) where
   on_request s (asks x n) number m qs xs live none h = absurd (waits_not x n none)
   on_request _ _ number m qs xs live none h = absurd h
 
-  routed_after : (p : Place) (fact : Fact) (qs : List Request) (xs : List Question) → MayLeave qs → Routes xs
+  routed_after : (p : Situation) (fact : Fact) (qs : List Request) (xs : List Question) → MayLeave qs → Routes xs
       → Goes (after_route config p fact) qs xs
   routed_after p (f.Routed leader) qs xs h all = quiet _ qs xs refl (leave_routing qs h, all)
   routed_after p fact qs xs h all = quiet (fails p (refusal_of fact)) qs xs refl (h, all)

@@ -36,7 +36,7 @@ use Rattle.ncc_session.specs.declared.checks.Wish.{Wish}
 use Rattle.ncc_session.specs.declared.checks.Entrance.{Entrance}
 use Rattle.ncc_session.specs.Checks.{Checked, is_welcome}
 use Rattle.ncc_session.specs.Question.{Question, enter, run, leave, route, Row, Output, wrote, asked, bytes_of, questions_of}
-use Rattle.ncc_session.specs.Core.{Tx, Next, begins, runs, adds, leaves, routes, Doing, idle, opened, asks, Place}
+use Rattle.ncc_session.specs.Core.{Tx, Next, begins, runs, adds, leaves, routes, Doing, idle, opened, asks, Situation}
 use Rattle.ncc_session.specs.Replies.{reply, success, failure_meta, hello_meta, more_meta, end_meta, table_meta}
 use Rattle.ncc_session.specs.Table.{turn_of}
 use Rattle.ncc_session.specs.Turns.{Turned, goes, freed, rests, fails, puts, refuses, without_steps, records, pulled, taken, left_in}
@@ -109,42 +109,42 @@ module _ (config : ConnConfig) (all : List Fact) where
     by_if true x y h k = h
     by_if false x y h k = k
 
-    fail_good : (p : Place) (refusal : Refusal) → Good qs (fails p refusal)
+    fail_good : (p : Situation) (refusal : Refusal) → Good qs (fails p refusal)
     fail_good p refusal =
         record { fine = (said (s.Failure (failure_meta refusal)) (failure_silent (failure_meta refusal)), tt); asking = tt }
 
-    refuse_good : (p : Place) (refusal : Refusal) → Good qs (refuses p refusal)
+    refuse_good : (p : Situation) (refusal : Refusal) → Good qs (refuses p refusal)
     refuse_good p refusal =
         record { fine = (said (s.Failure (failure_meta refusal)) (failure_silent (failure_meta refusal)), tt); asking = tt }
 
-    rest_good : (p : Place) (state : ConnState) (meta : Pairs) → IsSilent (short_response (s.Success meta)) → Good qs (rests p state meta)
+    rest_good : (p : Situation) (state : ConnState) (meta : Pairs) → IsSilent (short_response (s.Success meta)) → Good qs (rests p state meta)
     rest_good p state meta h = record { fine = (said (s.Success meta) h, tt); asking = tt }
 
-    open_good : (p : Place) (state : ConnState) (tx : Tx) (meta : Pairs) → IsSilent (short_response (s.Success meta))
+    open_good : (p : Situation) (state : ConnState) (tx : Tx) (meta : Pairs) → IsSilent (short_response (s.Success meta))
         → Good qs (goes p state (opened tx) (success meta ∷ []))
     open_good p state tx meta h = record { fine = (said (s.Success meta) h, tt); asking = tt }
 
-    put_good : (p : Place) (q : Question) (n : Next) → Good qs (puts p q n)
+    put_good : (p : Situation) (q : Question) (n : Next) → Good qs (puts p q n)
     put_good p q n = record { fine = (tt, tt); asking = Contains-append_right qs (q ∷ []) q (0, omega arith, refl) }
 
-    by_check : {A : Type 0} (p : Place) (x : Checked A) (go : A → Turned) → ((a : A) → Good qs (go a))
+    by_check : {A : Type 0} (p : Situation) (x : Checked A) (go : A → Turned) → ((a : A) → Good qs (go a))
         → Good qs (elim x [ Err refusal ↦ fails p refusal | Ok a ↦ go a ])
     by_check p (Err refusal) go h = fail_good p refusal
     by_check p (Ok a) go h = h a
 
     -- ---- requests
 
-    leave_good : (p : Place) (tx : Tx) → Good qs (ends_tx p tx)
+    leave_good : (p : Situation) (tx : Tx) → Good qs (ends_tx p tx)
     leave_good p tx =
         by_if (may_leave tx.steps tx.told) (puts p (leave tx.steps tx.told) leaves) (fails p r.TooLarge)
         (put_good p (leave tx.steps tx.told) leaves) (fail_good p r.TooLarge)
 
-    result_good : (p : Place) (state : ConnState) (tx : Tx) (number : ℕ) → Good qs (ends_result p state tx number)
+    result_good : (p : Situation) (state : ConnState) (tx : Tx) (number : ℕ) → Good qs (ends_result p state tx number)
     result_good p Streaming tx number = leave_good p tx
     result_good p _ tx number = open_good p _ tx (end_meta (kind_in tx.steps number))
         (end_silent (kind_in tx.steps number) (kind_in_fits tx.steps number))
 
-    on_good : (p : Place) (tx : Tx) (number : ℕ) (more : Bool) → Good qs (goes_on p tx number more)
+    on_good : (p : Situation) (tx : Tx) (number : ℕ) (more : Bool) → Good qs (goes_on p tx number more)
     on_good p tx number true = open_good p p.state tx more_meta more_silent
     on_good p tx number false = result_good p p.state tx number
 
@@ -156,7 +156,7 @@ module _ (config : ConnConfig) (all : List Fact) where
     records_fine true rows = rows_fine rows
     records_fine false rows = tt
 
-    pulled_good : (p : Place) (tx : Tx) (keep : Bool) (wish : Wish) (rows : List Row) (more : Bool)
+    pulled_good : (p : Situation) (tx : Tx) (keep : Bool) (wish : Wish) (rows : List Row) (more : Bool)
         → Good qs (pulls_rows p tx keep wish rows more)
     pulled_good p tx keep wish rows more =
         let after = goes_on p (pulled tx wish (length rows) more) wish.number more in
@@ -166,7 +166,7 @@ module _ (config : ConnConfig) (all : List Fact) where
           asking = subst (λ (x : List Question). Asked after.place.doing (qs ++ x)) (sym (replies_ask keep rows after.written)) g.asking;
         }
 
-    answered_good : (p : Place) (turn : Turn) → Good qs (answered config p turn)
+    answered_good : (p : Situation) (turn : Turn) → Good qs (answered config p turn)
     answered_good p (t.Login extra) =
         by_if (is_welcome config.auth extra) (rests p Ready (hello_meta config.conn)) (refuses p r.Unauthorized)
         (rest_good p Ready (hello_meta config.conn) (hello_silent config.conn)) (refuse_good p r.Unauthorized)
@@ -196,11 +196,11 @@ module _ (config : ConnConfig) (all : List Fact) where
 
     -- ---- facts
 
-    begin_good : (p : Place) (write : Bool) (fact : Fact) → Good qs (after_begin p write fact)
+    begin_good : (p : Situation) (write : Bool) (fact : Fact) → Good qs (after_begin p write fact)
     begin_good p write (f.Entered at) = open_good p _ _ [] none_silent
     begin_good p write fact = fail_good p (refusal_of fact)
 
-    enter_good : (p : Place) (write : Bool) (call : Call) (fact : Fact) → Good qs (after_enter p write call fact)
+    enter_good : (p : Situation) (write : Bool) (call : Call) (fact : Fact) → Good qs (after_enter p write call fact)
     enter_good p write call (f.Entered at) = put_good p _ _
     enter_good p write call fact = fail_good p (refusal_of fact)
 
@@ -209,7 +209,7 @@ module _ (config : ConnConfig) (all : List Fact) where
     columns_silent Ready calls number = run_silent calls
     columns_silent _ calls number = step_silent calls number
 
-    step_good : (p : Place) (calls : List Call) (tx : Tx) (fact : Fact) → Good qs (after_step p calls tx fact)
+    step_good : (p : Situation) (calls : List Call) (tx : Tx) (fact : Fact) → Good qs (after_step p calls tx fact)
     step_good p calls tx (f.Rows at rows) =
         by_if (nat_lt max_bytes (tx.kept + rows_len rows)) (fails p r.TooLarge)
         (tells_columns p (with_rows calls tx rows) (length tx.told))
@@ -218,7 +218,7 @@ module _ (config : ConnConfig) (all : List Fact) where
         (columns_silent p.state calls (length tx.told)))
     step_good p calls tx fact = fail_good p (refusal_of fact)
 
-    run_good : (p : Place) (q : Question) (tx : Tx) (fact : Fact) → Good qs (after_run p q tx fact)
+    run_good : (p : Situation) (q : Question) (tx : Tx) (fact : Fact) → Good qs (after_run p q tx fact)
     run_good p (run calls) tx fact = step_good p calls tx fact
     run_good p _ tx fact = fail_good p (refusal_of fact)
 
@@ -228,7 +228,7 @@ module _ (config : ConnConfig) (all : List Fact) where
     told_tells Streaming calls at = done_tells config.members.cluster at (kind_in calls 0) (kind_in_fits calls 0)
     told_tells _ calls at = commit_tells config.members.cluster at
 
-    done_good : (p : Place) (state : ConnState) (calls : List Call) (at : ℕ) → WasEnded qs → WasDoneAt all at
+    done_good : (p : Situation) (state : ConnState) (calls : List Call) (at : ℕ) → WasEnded qs → WasDoneAt all at
         → Good qs (tells_done config p state calls at)
     done_good p state calls at ended done =
         let meta = told_meta config.members.cluster state calls at in
@@ -245,21 +245,21 @@ module _ (config : ConnConfig) (all : List Fact) where
           asking = tt;
         }
 
-    end_good : (p : Place) (calls : List Call) (fact : Fact) → WasEnded qs → Contains all fact → Good qs (after_end config p calls fact)
+    end_good : (p : Situation) (calls : List Call) (fact : Fact) → WasEnded qs → Contains all fact → Good qs (after_end config p calls fact)
     end_good p calls (f.Done at) ended among = done_good p p.state calls at ended (inr among)
     end_good p calls (f.Placed at) ended among = done_good p p.state calls at ended (inl among)
     end_good p calls fact ended among = fail_good p (refusal_of fact)
 
-    left_good : (p : Place) (q : Question) (fact : Fact) → Contains qs q → Contains all fact → Good qs (after_leave config p q fact)
+    left_good : (p : Situation) (q : Question) (fact : Fact) → Contains qs q → Contains all fact → Good qs (after_leave config p q fact)
     left_good p (leave calls told) fact there among = end_good p calls fact (calls, told, there) among
     left_good p _ fact there among = fail_good p (refusal_of fact)
 
-    route_good : (p : Place) (fact : Fact) → Good qs (after_route config p fact)
+    route_good : (p : Situation) (fact : Fact) → Good qs (after_route config p fact)
     route_good p (f.Routed leader) =
         rest_good p Ready (table_meta config.members leader config.ttl) (table_silent config.members leader config.ttl)
     route_good p fact = fail_good p (refusal_of fact)
 
-    heard_good : (p : Place) (q : Question) (n : Next) (fact : Fact) → Contains qs q → Contains all fact → Good qs (heard config p q n fact)
+    heard_good : (p : Situation) (q : Question) (n : Next) (fact : Fact) → Contains qs q → Contains all fact → Good qs (heard config p q n fact)
     heard_good p q (begins write) fact there among = begin_good p write fact
     heard_good p q (runs write call) fact there among = enter_good p write call fact
     heard_good p q (adds tx) fact there among = run_good p q tx fact
@@ -268,7 +268,7 @@ module _ (config : ConnConfig) (all : List Fact) where
 
     -- ---- what comes in behind the handshake
 
-    message_good : (p : Place) (bytes : List ℕ) (x : Result Request MessageError)
+    message_good : (p : Situation) (bytes : List ℕ) (x : Result Request MessageError)
         → Good qs (elim x [
           | Ok request ↦ answered config (counted p) (turn_of p.state request)
           | Err cause ↦ ends p (stop.Malformed p.number (fault_at (length bytes) cause) cause) []
@@ -280,14 +280,14 @@ module _ (config : ConnConfig) (all : List Fact) where
     Comes (shaken shake) = ⊥
     Comes _ = Unit {0}
 
-    live_good : (p : Place) (i : Input) → Comes i → Good qs (on_live config p i)
+    live_good : (p : Situation) (i : Input) → Comes i → Good qs (on_live config p i)
     live_good p (shaken shake) h = absurd h
     live_good p (message bytes) h = message_good p bytes (request_at bytes)
     live_good p too_long h = record { fine = tt; asking = tt }
 
   -- ---- over whole sessions
 
-  record Kept (p : Place) (is : List Input) (fs : List Fact) (w : List Output) : Type 0 where
+  record Kept (p : Situation) (is : List Input) (fs : List Fact) (w : List Output) : Type 0 where
     comes : AllByRecursion (Comes []) is
     told : List Fact
     facts_are : told ++ fs ≡ all
@@ -306,7 +306,7 @@ module _ (config : ConnConfig) (all : List Fact) where
         subst (λ (qs : List Question). AllByRecursion (Fine qs) (w ++ turn.written)) (sym join) more,
       )
 
-  one_kept : (p : Place) (is : List Input) (fs : List Fact) (w : List Output) (t : Standing) → Moved config p is fs t → Kept p is fs w
+  one_kept : (p : Situation) (is : List Input) (fs : List Fact) (w : List Output) (t : Standing) → Moved config p is fs t → Kept p is fs w
       → Kept t.core t.items t.facts (w ++ t.written)
   one_kept p _ _ w _ (drops i is fs e) k =
       let turn = goes p p.state p.doing [] in

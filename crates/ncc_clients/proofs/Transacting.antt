@@ -22,7 +22,7 @@ use Rattle.ncc_session.specs.declared.checks.Wish.{Wish}
 use Rattle.ncc_session.specs.declared.checks.Entrance.{Entrance}
 use Rattle.ncc_session.specs.Checks.{Checked, is_welcome, entrance_of}
 use Rattle.ncc_session.specs.Question.{Question, enter, run, leave, Row, Output, questions_of}
-use Rattle.ncc_session.specs.Core.{Tx, Next, begins, adds, leaves, Doing, idle, opened, asks, Place}
+use Rattle.ncc_session.specs.Core.{Tx, Next, begins, adds, leaves, Doing, idle, opened, asks, Situation}
 use Rattle.ncc_session.specs.Replies.{hello_meta}
 use Rattle.ncc_session.specs.Table.{turn_of}
 use Rattle.ncc_session.specs.Turns.{Turned, freed, rests, fails, puts, refuses, preceded, records, without_steps, pulled, taken}
@@ -96,7 +96,7 @@ module _ (config : ConnConfig) (extra : Pairs) where
   abbrev Goes : Turned → List Request → List Question → Type 0
   Goes turn qs xs = After config questions_of Stage turn qs xs
 
-  abbrev at : ConnState → Doing → ℕ → Place
+  abbrev at : ConnState → Doing → ℕ → Situation
   at s d number = record { state = s; number = number; doing = d }
 
   -- ---- a turn that asks nothing
@@ -110,18 +110,18 @@ module _ (config : ConnConfig) (extra : Pairs) where
   after_if true x y qs xs h k = h
   after_if false x y qs xs h k = k
 
-  fail_after : (p : Place) (refusal : Refusal) (qs : List Request) (xs : List Question) → AreSteps qs → Once xs
+  fail_after : (p : Situation) (refusal : Refusal) (qs : List Request) (xs : List Question) → AreSteps qs → Once xs
       → Goes (fails p refusal) qs xs
   fail_after p refusal qs xs h once = quiet (fails p refusal) qs xs refl (h, once)
 
-  after_check : {A : Type 0} (p : Place) (x : Checked A) (go : A → Turned) (qs : List Request) (xs : List Question) → AreSteps qs → Once xs
+  after_check : {A : Type 0} (p : Situation) (x : Checked A) (go : A → Turned) (qs : List Request) (xs : List Question) → AreSteps qs → Once xs
       → ((a : A) → x ≡ Ok a → Goes (go a) qs xs) → Goes (elim x [ Err refusal ↦ fails p refusal | Ok a ↦ go a ]) qs xs
   after_check p (Err refusal) go qs xs h once k = fail_after p refusal qs xs h once
   after_check p (Ok a) go qs xs h once k = k a refl
 
   -- ---- requests: before BEGIN
 
-  hello_after : (p : Place) (b : Bool) (qs : List Request) (xs : List Question) → IsTransaction extra qs → xs ≡ []
+  hello_after : (p : Situation) (b : Bool) (qs : List Request) (xs : List Question) → IsTransaction extra qs → xs ≡ []
       → Goes (if b then rests p Ready (hello_meta config.conn) else refuses p r.Unauthorized) qs xs
   hello_after p b qs xs h e =
       after_if b (rests p Ready (hello_meta config.conn)) (refuses p r.Unauthorized) qs xs
@@ -195,19 +195,19 @@ module _ (config : ConnConfig) (extra : Pairs) where
   IsOpenState s = (d : Doing) (qs : List Request) (xs : List Question) → InTx d qs → Entered xs → Stage s d qs xs
 
   -- a question of the transaction
-  asks_more : (p : Place) (x : Question) (n : Next) (qs : List Request) (xs : List Question) → IsOpenState p.state → InTx (asks x n) qs
+  asks_more : (p : Situation) (x : Question) (n : Next) (qs : List Request) (xs : List Question) → IsOpenState p.state → InTx (asks x n) qs
       → AsksElse x → Entered xs → Goes (puts p x n) qs xs
   asks_more p x n qs xs k h other e =
       record { now = xs ++ x ∷ []; is = refl; stage = k (asks x n) qs (xs ++ x ∷ []) h (entered_more xs x other e) }
 
-  step_after : (p : Place) (tx : Tx) (query : List ℕ) (params : Pairs) (qs : List Request) (xs : List Question) → IsOpenState p.state
+  step_after : (p : Situation) (tx : Tx) (query : List ℕ) (params : Pairs) (qs : List Request) (xs : List Question) → IsOpenState p.state
       → AreSteps qs → Entered xs → Goes (runs_step p tx query params) qs xs
   step_after p tx query params qs xs k h entered =
       after_check p (checked_step tx query params)
       (λ (call : Call). puts p (run (tx.steps ++ call ∷ [])) (adds (without_steps tx))) qs xs h (entered_once xs entered)
       (λ call e. asks_more p (run (tx.steps ++ call ∷ [])) (adds (without_steps tx)) qs xs k h tt entered)
 
-  commit_after : (p : Place) (tx : Tx) (qs : List Request) (xs : List Question) → IsOpenState p.state → MayLeave qs → Entered xs
+  commit_after : (p : Situation) (tx : Tx) (qs : List Request) (xs : List Question) → IsOpenState p.state → MayLeave qs → Entered xs
       → Goes (ends_tx p tx) qs xs
   commit_after p tx qs xs k h entered =
       after_if (may_leave tx.steps tx.told) (puts p (leave tx.steps tx.told) leaves) (fails p r.TooLarge) qs xs
@@ -219,7 +219,7 @@ module _ (config : ConnConfig) (extra : Pairs) where
   open_stage true tx qs xs h entered = (h, entered)
   open_stage false tx qs xs h entered = (h, entered)
 
-  abbrev streams : ℕ → Place
+  abbrev streams : ℕ → Situation
   streams number = at TxStreaming idle number
 
   on_after : (number : ℕ) (tx : Tx) (result : ℕ) (more : Bool) (qs : List Request) (xs : List Question) → AreSteps qs → Entered xs
@@ -291,12 +291,12 @@ module _ (config : ConnConfig) (extra : Pairs) where
 
   -- ---- facts
 
-  begun_after : (p : Place) (write : Bool) (fact : Fact) (qs : List Request) (xs : List Question) → AreSteps qs → Entered xs
+  begun_after : (p : Situation) (write : Bool) (fact : Fact) (qs : List Request) (xs : List Question) → AreSteps qs → Entered xs
       → Goes (after_begin p write fact) qs xs
   begun_after p write (f.Entered place) qs xs h entered = quiet _ qs xs refl (h, entered)
   begun_after p write fact qs xs h entered = fail_after p (refusal_of fact) qs xs h (entered_once xs entered)
 
-  rows_after : (p : Place) (calls : List Call) (tx : Tx) (rows : List Row) (qs : List Request) (xs : List Question)
+  rows_after : (p : Situation) (calls : List Call) (tx : Tx) (rows : List Row) (qs : List Request) (xs : List Question)
       → Goes (tells_columns p (with_rows calls tx rows) (length tx.told)) qs xs → AreSteps qs → Entered xs
       → Goes (adds_rows p calls tx rows) qs xs
   rows_after p calls tx rows qs xs k h entered =
@@ -316,7 +316,7 @@ module _ (config : ConnConfig) (extra : Pairs) where
       rows_after (streams number) calls tx rows qs xs (quiet _ qs xs refl (h, entered)) h entered
   streaming_rows number calls tx fact qs xs h entered = fail_after (streams number) (refusal_of fact) qs xs h (entered_once xs entered)
 
-  ended_after : (p : Place) (calls : List Call) (fact : Fact) (qs : List Request) (xs : List Question) → MayLeave qs → Entered xs
+  ended_after : (p : Situation) (calls : List Call) (fact : Fact) (qs : List Request) (xs : List Question) → MayLeave qs → Entered xs
       → Goes (after_end config p calls fact) qs xs
   ended_after p calls (f.Done place) qs xs h entered = quiet _ qs xs refl (inr (h, entered_once xs entered))
   ended_after p calls (f.Placed place) qs xs h entered = quiet _ qs xs refl (inr (h, entered_once xs entered))

@@ -13,7 +13,7 @@ use Rattle.ncc_session.specs.declared.state.ConnState.{ConnState}
 use Rattle.ncc_session.specs.declared.state.ConnState.TheVariants.{Connected}
 use Rattle.ncc_session.specs.declared.ask.Fact.{Fact}
 use Rattle.ncc_session.specs.Question.{Question, Output, wrote}
-use Rattle.ncc_session.specs.Core.{Next, Doing, idle, asks, Place}
+use Rattle.ncc_session.specs.Core.{Next, Doing, idle, asks, Situation}
 use Rattle.ncc_session.specs.Table.{turn_of}
 use Rattle.ncc_session.specs.Turns.{Turned, freed, goes, answered, heard}
 use Rattle.ncc_session.specs.Session.{Input, too_long, end_of, Standing, counted, on_message, on_live, move, start, session, is_ended}
@@ -22,7 +22,7 @@ use Rattle.ncc_clients.specs.Transacting.{CanBeSent, Sent}
 use Rattle.ncc_clients.proofs.Streams.{arrives, Arrived, inputs_sent}
 use Rattle.ncc_clients.proofs.Moving.{Moved, drops, takes, hearkens, moved, all_keep, connected, chosen, starts, rests_at_start}
 
-message_is : (config : ConnConfig) (p : Place) (q : Request) → request_at (short_request q) ≡ Ok q
+message_is : (config : ConnConfig) (p : Situation) (q : Request) → request_at (short_request q) ≡ Ok q
     → answered config (counted p) (turn_of p.state q) ≡ on_message config p (short_request q)
 message_is config p q e = rw (e, on_message) refl
 
@@ -43,17 +43,17 @@ module _ (config : ConnConfig) {X : Type 0} (sum : List Output → List X) (Stag
   pub record Walk : Type 0 where
     pub join : (a b : List Output) → sum (a ++ b) ≡ sum a ++ sum b
     pub nothing : sum [] ≡ []
-    pub on_request : (p : Place) (q : Request) (qs : List Request) (xs : List X) → is_ended p.state ≡ false → question_in p.doing ≡ None
+    pub on_request : (p : Situation) (q : Request) (qs : List Request) (xs : List X) → is_ended p.state ≡ false → question_in p.doing ≡ None
         → request_at (short_request q) ≡ Ok q → Stage p.state p.doing (q ∷ qs) xs
         → After (answered config (counted p) (turn_of p.state q)) qs xs
-    pub on_fact : (p : Place) (q : Question) (n : Next) (fact : Fact) (qs : List Request) (xs : List X) → is_ended p.state ≡ false
+    pub on_fact : (p : Situation) (q : Question) (n : Next) (fact : Fact) (qs : List Request) (xs : List X) → is_ended p.state ≡ false
         → Stage p.state (asks q n) qs xs → After (heard config (freed p) q n fact) qs xs
-    pub on_long : (p : Place) (qs : List Request) (xs : List X) → Stage p.state p.doing qs xs → After (on_live config p too_long) qs xs
+    pub on_long : (p : Situation) (qs : List Request) (xs : List X) → Stage p.state p.doing qs xs → After (on_live config p too_long) qs xs
     pub on_end : (s : ConnState) (d : Doing) (q : Request) (qs : List Request) (xs : List X) → is_ended s ≡ true → Stage s d (q ∷ qs) xs
         → Stage s d qs xs
 
   module _ (walk : Walk) where
-    record Kept (p : Place) (is : List Input) (fs : List Fact) (w : List Output) : Type 0 where
+    record Kept (p : Situation) (is : List Input) (fs : List Fact) (w : List Output) : Type 0 where
       front : List Request
       others : List Request
       long : Bool
@@ -62,7 +62,7 @@ module _ (config : ConnConfig) {X : Type 0} (sum : List Output → List X) (Stag
       stage : Stage p.state p.doing (front ++ others) (sum w)
 
     -- one request has come in
-    record Comes (p : Place) (i : Input) (is : List Input) (w : List Output) : Type 0 where
+    record Comes (p : Situation) (i : Input) (is : List Input) (w : List Output) : Type 0 where
       first : Request
       front : List Request
       others : List Request
@@ -74,18 +74,18 @@ module _ (config : ConnConfig) {X : Type 0} (sum : List Output → List X) (Stag
       stage : Stage p.state p.doing (first ∷ (front ++ others)) (sum w)
 
     -- a message that is too long has come in, and nothing behind it
-    record Stops (p : Place) (i : Input) (is : List Input) (w : List Output) : Type 0 where
+    record Stops (p : Situation) (i : Input) (is : List Input) (w : List Output) : Type 0 where
       others : List Request
       is_long : i ≡ too_long
       none : is ≡ []
       stage : Stage p.state p.doing others (sum w)
 
-    last_long : (p : Place) (i : Input) (is : List Input) (w : List Output) (others : List Request) (b : Bool) → i ∷ is ≡ end_of b
+    last_long : (p : Situation) (i : Input) (is : List Input) (w : List Output) (others : List Request) (b : Bool) → i ∷ is ≡ end_of b
         → Stage p.state p.doing others (sum w) → Stops p i is w
     last_long p i is w others true e h = record { others = others; is_long = cc; none = cc; stage = h }
     last_long p i is w others false e h = absurd (cc)
 
-    comes : (p : Place) (i : Input) (is : List Input) (w : List Output) (front others : List Request) (long : Bool)
+    comes : (p : Situation) (i : Input) (is : List Input) (w : List Output) (front others : List Request) (long : Bool)
         → i ∷ is ≡ map arrives front ++ end_of long → AllByRecursion CanBeSent front → Stage p.state p.doing (front ++ others) (sum w)
         → Comes p i is w ⊎ Stops p i is w
     comes p i is w [] others long e can h = inr (last_long p i is w others long e h)
@@ -109,7 +109,7 @@ module _ (config : ConnConfig) {X : Type 0} (sum : List Output → List X) (Stag
     stage_after w turn qs a =
         subst (Stage turn.place.state turn.place.doing qs) (sym (walk.join w turn.written ∙ a.is)) a.stage
 
-    drops_kept : (p : Place) (i : Input) (is : List Input) (fs : List Fact) (w : List Output) → is_ended p.state ≡ true
+    drops_kept : (p : Situation) (i : Input) (is : List Input) (fs : List Fact) (w : List Output) → is_ended p.state ≡ true
         → Comes p i is w ⊎ Stops p i is w → Kept (goes p p.state p.doing []).place is fs (w ++ [])
     drops_kept p i is fs w e (inl c) = record {
       front = c.front;
@@ -129,7 +129,7 @@ module _ (config : ConnConfig) {X : Type 0} (sum : List Output → List X) (Stag
       stage = subst (λ (v : List Output). Stage p.state p.doing c.others (sum v)) (sym (append-nil w)) c.stage;
     }
 
-    takes_kept : (p : Place) (i : Input) (is : List Input) (fs : List Fact) (w : List Output) → is_ended p.state ≡ false
+    takes_kept : (p : Situation) (i : Input) (is : List Input) (fs : List Fact) (w : List Output) → is_ended p.state ≡ false
         → question_in p.doing ≡ None → Comes p i is w ⊎ Stops p i is w
         → Kept (on_live config p i).place is fs (w ++ (on_live config p i).written)
     takes_kept p i is fs w e n (inl c) =
@@ -156,7 +156,7 @@ module _ (config : ConnConfig) {X : Type 0} (sum : List Output → List X) (Stag
           (stage_after w (on_live config p too_long) c.others (walk.on_long p c.others (sum w) c.stage));
     }
 
-    one_kept : (p : Place) (is : List Input) (fs : List Fact) (w : List Output) (t : Standing) → Moved config p is fs t → Kept p is fs w
+    one_kept : (p : Situation) (is : List Input) (fs : List Fact) (w : List Output) (t : Standing) → Moved config p is fs t → Kept p is fs w
         → Kept t.core t.items t.facts (w ++ t.written)
     one_kept p _ _ w _ (drops i is fs e) k = drops_kept p i is fs w e (comes p i is w k.front k.others k.long k.are k.can k.stage)
     one_kept p _ _ w _ (takes i is fs e n) k = takes_kept p i is fs w e n (comes p i is w k.front k.others k.long k.are k.can k.stage)
@@ -173,7 +173,7 @@ module _ (config : ConnConfig) {X : Type 0} (sum : List Output → List X) (Stag
 
     -- where a session ends up
     pub record Ends (written : List Output) : Type 0 where
-      pub place : Place
+      pub place : Situation
       pub left : List Request
       pub stage : Stage place.state place.doing left (sum written)
 

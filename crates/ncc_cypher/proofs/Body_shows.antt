@@ -12,10 +12,10 @@ use Rattle.ncc_cypher.specs.declared.tree.Item.TheVariants as i
 use Rattle.ncc_cypher.specs.declared.tree.Head.{Head}
 use Rattle.ncc_cypher.specs.declared.tree.Head.TheVariants as h
 use Rattle.ncc_cypher.specs.declared.tree.Change.TheVariants as c
-use Rattle.ncc_cypher.specs.Place.{Made}
-use Rattle.ncc_cypher.specs.Place.{Body}
-use Rattle.ncc_cypher.specs.Place.{Place}
-use Rattle.ncc_cypher.specs.Place as p
+use Rattle.ncc_cypher.specs.Site.{Made}
+use Rattle.ncc_cypher.specs.Site.{Body}
+use Rattle.ncc_cypher.specs.Site.{Site}
+use Rattle.ncc_cypher.specs.Site as p
 use Rattle.ncc_cypher.specs.State.{State}
 use Rattle.ncc_cypher.specs.State as s
 use Rattle.ncc_cypher.specs.Grammar.{Name, Choice, Named, given, term, sum, change, item, named, NotEmpty, IsBound, IsTerm, IsItem, IsPair, is_count, items_of, Goes, count, items, nothing}
@@ -134,10 +134,10 @@ delete_return_shows k a _ r fine e = never r e
 -- ---- sums
 
 -- a state behind one more term
-term_shows : (k : Choice) (w : Place) (ts : List Term) (x : Term) (y : Token) (old r : State) → shown k old ++ (y ∷ []) ≡ so_far k w ++ (terms_then w ts ++ term (scope w) x) → FineTerms k w ts → IsTerm (scope w) x → Some (s.After w (ts ++ (x ∷ []))) ≡ Some r → Shows k old y r
+term_shows : (k : Choice) (w : Site) (ts : List Term) (x : Term) (y : Token) (old r : State) → shown k old ++ (y ∷ []) ≡ so_far k w ++ (terms_then w ts ++ term (scope w) x) → FineTerms k w ts → IsTerm (scope w) x → Some (s.After w (ts ++ (x ∷ []))) ≡ Some r → Shows k old y r
 term_shows k w ts x y old r text fine is e = goes_to k old y (s.After w (ts ++ (x ∷ []))) r k e (ap (λ (z : List Token). so_far k w ++ z) (parted_last (term (scope w)) t.Plus ts x) ∙ sym text) (fine.0, (not_empty ts x, Every_more (IsTerm (scope w)) ts x fine.1 is))
 
-pub needs_shows : (k : Choice) (w : Place) (ts : List Term) (y : Token) (r : State) → Fine k (s.Needs w ts) → at_needs w ts y ≡ Some r → Shows k (s.Needs w ts) y r
+pub needs_shows : (k : Choice) (w : Site) (ts : List Term) (y : Token) (r : State) → Fine k (s.Needs w ts) → at_needs w ts y ≡ Some r → Shows k (s.Needs w ts) y r
 needs_shows k w ts t.Null r fine e = term_shows k w ts m.Null t.Null (s.Needs w ts) r (simp append_assoc) fine tt e
 needs_shows k w ts t.True r fine e = term_shows k w ts (m.Bool true) t.True (s.Needs w ts) r (simp append_assoc) fine tt e
 needs_shows k w ts t.False r fine e = term_shows k w ts (m.Bool false) t.False (s.Needs w ts) r (simp append_assoc) fine tt e
@@ -150,11 +150,11 @@ needs_shows k w ts (t.Name x) r fine e =
     goes_to k (s.Needs w ts) (t.Name x) (s.Owned w ts) r k l.1 (ap (λ (z : List Token). so_far k w ++ (terms_then w ts ++ z)) b.0 ∙ simp append_assoc) (fine, b.1)
 needs_shows k w ts _ r fine e = never r e
 
-pub param_shows : (k : Choice) (w : Place) (ts : List Term) (y : Token) (r : State) → Fine k (s.Param w ts) → at_param w ts y ≡ Some r → Shows k (s.Param w ts) y r
+pub param_shows : (k : Choice) (w : Site) (ts : List Term) (y : Token) (r : State) → Fine k (s.Param w ts) → at_param w ts y ≡ Some r → Shows k (s.Param w ts) y r
 param_shows k w ts (t.Name x) r fine e = term_shows k w ts (m.Param x) (t.Name x) (s.Param w ts) r (simp append_assoc) fine tt e
 param_shows k w ts _ r fine e = never r e
 
-pub dotted_shows : (k : Choice) (w : Place) (ts : List Term) (y : Token) (r : State) → Fine k (s.Dotted w ts) → at_dotted w ts y ≡ Some r → Shows k (s.Dotted w ts) y r
+pub dotted_shows : (k : Choice) (w : Site) (ts : List Term) (y : Token) (r : State) → Fine k (s.Dotted w ts) → at_dotted w ts y ≡ Some r → Shows k (s.Dotted w ts) y r
 dotted_shows k w ts (t.Name x) r fine e = term_shows k w ts (m.Prop x) (t.Name x) (s.Dotted w ts) r (simp append_assoc) fine.0 fine.1 e
 dotted_shows k w ts _ r fine e = never r e
 
@@ -173,22 +173,22 @@ item_shows k b xs x t.Comma old r text fine is e =
 item_shows k b xs x t.As old r text fine is e = goes_to k old t.As (s.Aliasing b xs x) r k e (rw text (simp append_assoc)) (fine, is)
 item_shows k b xs x _ old r text fine is e = never r e
 
-name_shows : (k : Choice) (w : Place) (ts : List Term) (y : Token) (r : State) → Fine k (s.Owned w ts) → behind_name w ts y ≡ Some r → Shows k (s.Owned w ts) y r
+name_shows : (k : Choice) (w : Site) (ts : List Term) (y : Token) (r : State) → Fine k (s.Owned w ts) → behind_name w ts y ≡ Some r → Shows k (s.Owned w ts) y r
 name_shows k (p.InItem b xs) [] y r fine e = item_shows k b xs i.Whole y (s.Owned (p.InItem b xs) []) r refl fine.0.0 fine.1 e
 name_shows k (p.InItem b xs) (x ∷ ts) y r fine e = never r e
 name_shows k (p.InPair n ps q) ts y r fine e = never r e
 name_shows k (p.InSet a ps q) ts y r fine e = never r e
 
-pub owned_shows : (k : Choice) (w : Place) (ts : List Term) (y : Token) (r : State) → Fine k (s.Owned w ts) → at_owned w ts y ≡ Some r → Shows k (s.Owned w ts) y r
+pub owned_shows : (k : Choice) (w : Site) (ts : List Term) (y : Token) (r : State) → Fine k (s.Owned w ts) → at_owned w ts y ≡ Some r → Shows k (s.Owned w ts) y r
 owned_shows k w ts t.Dot r fine e = goes_to k (s.Owned w ts) t.Dot (s.Dotted w ts) r k e (simp append_assoc) fine
 owned_shows k w ts y r fine e = name_shows k w ts y r fine e
 
-sum_shows : (k : Choice) (w : Place) (ts : List Term) (y : Token) (r : State) → Fine k (s.After w ts) → behind_sum w ts y ≡ Some r → Shows k (s.After w ts) y r
+sum_shows : (k : Choice) (w : Site) (ts : List Term) (y : Token) (r : State) → Fine k (s.After w ts) → behind_sum w ts y ≡ Some r → Shows k (s.After w ts) y r
 sum_shows k (p.InPair n ps q) ts y r fine e = pair_shows k n ps (a_pair q ts) y (s.After (p.InPair n ps q) ts) r (simp append_assoc) fine.0.0 fine.0.1 fine.1 e
 sum_shows k (p.InSet a ps q) ts y r fine e = change_shows k a ps (a_pair q ts) y (s.After (p.InSet a ps q) ts) r (simp append_assoc) fine.0 fine.1 e
 sum_shows k (p.InItem b xs) ts y r fine e = item_shows k b xs (a_sum ts) y (s.After (p.InItem b xs) ts) r refl fine.0 fine.1 e
 
-pub after_shows : (k : Choice) (w : Place) (ts : List Term) (y : Token) (r : State) → Fine k (s.After w ts) → at_after w ts y ≡ Some r → Shows k (s.After w ts) y r
+pub after_shows : (k : Choice) (w : Site) (ts : List Term) (y : Token) (r : State) → Fine k (s.After w ts) → at_after w ts y ≡ Some r → Shows k (s.After w ts) y r
 after_shows k w ts t.Plus r fine e =
     goes_to k (s.After w ts) t.Plus (s.Needs w ts) r k e (ap (λ (z : List Token). so_far k w ++ z) (parted_then (term (scope w)) t.Plus ts fine.1.0) ∙ sym (append_assoc (so_far k w) (sum (scope w) ts) (t.Plus ∷ []))) (fine.0, fine.1.1)
 after_shows k w ts y r fine e = sum_shows k w ts y r fine e

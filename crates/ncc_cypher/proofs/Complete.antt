@@ -20,11 +20,11 @@ use Rattle.ncc_cypher.specs.Verb.{Verb}
 use Rattle.ncc_cypher.specs.Verb as v
 use Rattle.ncc_cypher.specs.Opening.{Opening}
 use Rattle.ncc_cypher.specs.Opening as o
-use Rattle.ncc_cypher.specs.Place.{Node}
-use Rattle.ncc_cypher.specs.Place.{Made}
-use Rattle.ncc_cypher.specs.Place.{Body}
-use Rattle.ncc_cypher.specs.Place.{Place}
-use Rattle.ncc_cypher.specs.Place as p
+use Rattle.ncc_cypher.specs.Site.{Node}
+use Rattle.ncc_cypher.specs.Site.{Made}
+use Rattle.ncc_cypher.specs.Site.{Body}
+use Rattle.ncc_cypher.specs.Site.{Site}
+use Rattle.ncc_cypher.specs.Site as p
 use Rattle.ncc_cypher.specs.State.{State}
 use Rattle.ncc_cypher.specs.State as s
 use Rattle.ncc_cypher.specs.Grammar.{Name, Choice, Named, given, term, further, parted, sum, pair, change, alias, item, named, node, head, props, changes, tail, semicolon, NotEmpty, Every, IsBound, IsTerm, IsSum, IsItem, IsPair, has, AllNew, ArePairs, IsHead, IsChange, IsTail, is_count, items_of, Goes, Kind, items, nothing, kind, Spells}
@@ -60,12 +60,12 @@ bound_self n = itself n
 
 -- ---- sums
 
-prop_run : (w : Place) (b : List Term) (q : Name) (n : Option Name) → scope w ≡ n → IsBound n → Goes_by (s.Needs w b) (given n ++ (t.Dot ∷ t.Name q ∷ [])) (s.After w (b ++ (m.Prop q ∷ [])))
+prop_run : (w : Site) (b : List Term) (q : Name) (n : Option Name) → scope w ≡ n → IsBound n → Goes_by (s.Needs w b) (given n ++ (t.Dot ∷ t.Name q ∷ [])) (s.After w (b ++ (m.Prop q ∷ [])))
 unfolding run go
 prop_run w b q None e g = absurd g
 prop_run w b q (Some n) e g = λ us. let i : is_bound (scope w) n ≡ true = rw e (itself n) in rw i refl
 
-term_run : (w : Place) (b : List Term) (x : Term) → IsTerm (scope w) x → Goes_by (s.Needs w b) (term (scope w) x) (s.After w (b ++ (x ∷ [])))
+term_run : (w : Site) (b : List Term) (x : Term) → IsTerm (scope w) x → Goes_by (s.Needs w b) (term (scope w) x) (s.After w (b ++ (x ∷ [])))
 unfolding run go
 term_run w b m.Null f = λ us. refl
 term_run w b (m.Bool true) f = λ us. refl
@@ -75,7 +75,7 @@ term_run w b (m.Text n) f = λ us. refl
 term_run w b (m.Param n) f = λ us. refl
 term_run w b (m.Prop q) f = prop_run w b q (scope w) refl f
 
-terms_run : (w : Place) (b : List Term) (x : Term) (xs : List Term) → IsTerm (scope w) x → Every (IsTerm (scope w)) xs → Goes_by (s.Needs w b) (term (scope w) x ++ further (term (scope w)) t.Plus xs) (s.After w (b ++ (x ∷ xs)))
+terms_run : (w : Site) (b : List Term) (x : Term) (xs : List Term) → IsTerm (scope w) x → Every (IsTerm (scope w)) xs → Goes_by (s.Needs w b) (term (scope w) x ++ further (term (scope w)) t.Plus xs) (s.After w (b ++ (x ∷ xs)))
 unfolding run go
 terms_run w b x [] f fs = λ us. ap (λ (z : List Token). run (s.Needs w b) (z ++ us)) (append-nil (term (scope w) x)) ∙ term_run w b x f us
 terms_run w b x (y ∷ ys) f fs =
@@ -84,7 +84,7 @@ terms_run w b x (y ∷ ys) f fs =
     λ us. ap (run (s.Needs w b)) (append_assoc (term n x) (t.Plus ∷ others) us) ∙ term_run w b x f (t.Plus ∷ (others ++ us)) ∙ terms_run w (b ++ (x ∷ [])) y ys fs.0 fs.1 us
     ∙ ap (λ (z : List Term). run (s.After w z) us) (append_assoc b (x ∷ []) (y ∷ ys))
 
-sum_run : (w : Place) (e : List Term) → IsSum (scope w) e → Goes_by (s.Needs w []) (sum (scope w) e) (s.After w e)
+sum_run : (w : Site) (e : List Term) → IsSum (scope w) e → Goes_by (s.Needs w []) (sum (scope w) e) (s.After w e)
 sum_run w [] f = absurd f.0
 sum_run w (x ∷ xs) f = terms_run w [] x xs f.1.0 f.1.1
 

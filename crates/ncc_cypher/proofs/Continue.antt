@@ -15,11 +15,11 @@ use Rattle.ncc_cypher.specs.declared.tree.Change.TheVariants as c
 use Rattle.ncc_cypher.specs.declared.tree.Statement.{Statement}
 use Rattle.ncc_cypher.specs.declared.class.Class.TheVariants as q
 use Rattle.ncc_cypher.specs.Verb as v
-use Rattle.ncc_cypher.specs.Place.{Node}
-use Rattle.ncc_cypher.specs.Place.{Made}
-use Rattle.ncc_cypher.specs.Place.{Body}
-use Rattle.ncc_cypher.specs.Place.{Place}
-use Rattle.ncc_cypher.specs.Place as p
+use Rattle.ncc_cypher.specs.Site.{Node}
+use Rattle.ncc_cypher.specs.Site.{Made}
+use Rattle.ncc_cypher.specs.Site.{Body}
+use Rattle.ncc_cypher.specs.Site.{Site}
+use Rattle.ncc_cypher.specs.Site as p
 use Rattle.ncc_cypher.specs.State.{State}
 use Rattle.ncc_cypher.specs.State as s
 use Rattle.ncc_cypher.specs.Class.{class, is_word}
@@ -80,7 +80,7 @@ value = t.Colon ∷ t.Null ∷ t.RightBrace ∷ t.Close ∷ returns
 abbrev braces : List Token
 braces = t.LeftBrace ∷ t.Name a_name ∷ value
 
-abbrev finish : Place → List Token
+abbrev finish : Site → List Token
 finish (p.InPair n ps k) = t.RightBrace ∷ t.Close ∷ returns
 finish _ = []
 
@@ -134,7 +134,7 @@ unfolding run go ends
 count_done b None e f = absurd f
 count_done b (Some n) e f = let k : is_bound b.made.name n ≡ true = rw e (itself n) in (_, record { end = _; goes = ap (λ (z : Bool). then_run (λ r. run r (t.Close ∷ [])) (when z (s.CountOwned b))) k; is = refl })
 
-place_done : (w : Place) (ts : List Term) → (y : Statement) × Read (run (s.After w ts) (finish w)) y
+place_done : (w : Site) (ts : List Term) → (y : Statement) × Read (run (s.After w ts) (finish w)) y
 unfolding run go ends
 place_done (p.InPair n ps k) ts = (_, record { end = _; goes = refl; is = refl })
 place_done (p.InSet a ps k) ts = (_, record { end = _; goes = refl; is = refl })
@@ -237,7 +237,7 @@ all_value = (signs.colon, (null_token, (signs.right, (signs.close, all_returns))
 all_braces : All braces
 all_braces = (signs.left, (name_token, all_value))
 
-all_finish : (w : Place) → All (finish w)
+all_finish : (w : Site) → All (finish w)
 all_finish (p.InPair n ps k) = (signs.right, (signs.close, all_returns))
 all_finish (p.InSet a ps k) = tt
 all_finish (p.InItem b xs) = tt

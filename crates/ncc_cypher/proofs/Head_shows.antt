@@ -10,9 +10,9 @@ use Rattle.ncc_cypher.specs.Verb.{Verb}
 use Rattle.ncc_cypher.specs.Verb as v
 use Rattle.ncc_cypher.specs.Opening.{Opening}
 use Rattle.ncc_cypher.specs.Opening as o
-use Rattle.ncc_cypher.specs.Place.{Node}
-use Rattle.ncc_cypher.specs.Place.{Made}
-use Rattle.ncc_cypher.specs.Place as p
+use Rattle.ncc_cypher.specs.Site.{Node}
+use Rattle.ncc_cypher.specs.Site.{Made}
+use Rattle.ncc_cypher.specs.Site as p
 use Rattle.ncc_cypher.specs.State.{State}
 use Rattle.ncc_cypher.specs.State as s
 use Rattle.ncc_cypher.specs.Grammar.{Name, Choice, given, pair, node, head, pattern, IsPair, has, ArePairs}

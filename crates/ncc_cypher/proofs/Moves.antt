@@ -21,8 +21,8 @@ use Rattle.ncc_cypher.specs.Columns.{columns}
 use Rattle.ncc_cypher.specs.Verb.{Verb}
 use Rattle.ncc_cypher.specs.Opening.{Opening}
 use Rattle.ncc_cypher.specs.Opening as o
-use Rattle.ncc_cypher.specs.Place.{Node, Made, Body, Place}
-use Rattle.ncc_cypher.specs.Place as p
+use Rattle.ncc_cypher.specs.Site.{Node, Made, Body, Site}
+use Rattle.ncc_cypher.specs.Site as p
 use Rattle.ncc_cypher.specs.State.{State}
 use Rattle.ncc_cypher.specs.State as s
 use Rattle.ncc_cypher.specs.Machine.{step, go, ends, accepts, then_state, is_find, is_bound, scope, a_node, first_name, when}
@@ -224,7 +224,7 @@ returned_columns old new e a =
 
 -- ---- the bound name
 
-pub owned_step : (w : Place) (ts : List Term) (n : Option Name) (x : Name) → scope w ≡ n → is_bound n x ≡ true → step (s.Needs w ts) (t.Name x) ≡ Some (s.Owned w ts)
+pub owned_step : (w : Site) (ts : List Term) (n : Option Name) (x : Name) → scope w ≡ n → is_bound n x ≡ true → step (s.Needs w ts) (t.Name x) ≡ Some (s.Owned w ts)
 unfolding go
 owned_step w ts n x e b = let k : is_bound (scope w) x ≡ true = rw e b in rw k refl
 

@@ -12,11 +12,11 @@ use Rattle.ncc_cypher.specs.Verb.{Verb}
 use Rattle.ncc_cypher.specs.Verb as v
 use Rattle.ncc_cypher.specs.Opening.{Opening}
 use Rattle.ncc_cypher.specs.Opening as o
-use Rattle.ncc_cypher.specs.Place.{Node}
-use Rattle.ncc_cypher.specs.Place.{Made}
-use Rattle.ncc_cypher.specs.Place.{Body}
-use Rattle.ncc_cypher.specs.Place.{Place}
-use Rattle.ncc_cypher.specs.Place as p
+use Rattle.ncc_cypher.specs.Site.{Node}
+use Rattle.ncc_cypher.specs.Site.{Made}
+use Rattle.ncc_cypher.specs.Site.{Body}
+use Rattle.ncc_cypher.specs.Site.{Site}
+use Rattle.ncc_cypher.specs.Site as p
 use Rattle.ncc_cypher.specs.State.{State}
 use Rattle.ncc_cypher.specs.State as s
 use Rattle.ncc_cypher.specs.Grammar.{Name, Choice, given, term, parted, sum, pair, change, alias, item, named, node, head, pattern, changes, tokens, NotEmpty, Every, IsBound, IsTerm, IsSum, IsItem, IsPair, has, ArePairs, IsHead, IsChange, IsTail, is_count, items_of, Goes, Kind, kind, count, items}
@@ -42,12 +42,12 @@ made_tokens c a = head c.braces a.name a.head
 abbrev pub body_tokens : Choice → Body → List Token
 body_tokens c b = made_tokens c b.made ++ changes b.made.name b.change
 
-abbrev pub so_far : Choice → Place → List Token
+abbrev pub so_far : Choice → Site → List Token
 so_far c (p.InPair n ps k) = node_tokens n ++ (t.LeftBrace ∷ (each_then pair t.Comma ps ++ (t.Name k ∷ t.Colon ∷ [])))
 so_far c (p.InSet a ps k) = made_tokens c a ++ (t.Set ∷ (each_then (change a.name) t.Comma ps ++ (given a.name ++ (t.Dot ∷ t.Name k ∷ t.Equals ∷ []))))
 so_far c (p.InItem b xs) = body_tokens c b ++ (t.Return ∷ each_then (named b.made.name) t.Comma c.named)
 
-abbrev pub terms_then : Place → List Term → List Token
+abbrev pub terms_then : Site → List Term → List Token
 terms_then w ts = each_then (term (scope w)) t.Plus ts
 
 abbrev pub shown : Choice → State → List Token
@@ -111,12 +111,12 @@ FineBody c b k = IsHead c.braces b.made.head × IsChange b.made.name b.change ×
 abbrev pub FineSet : Choice → Made → List Pair → Type 0
 FineSet c a ps = FineMade c a × IsBound a.name × Every (IsPair a.name) ps
 
-abbrev pub FinePlace : Choice → Place → Type 0
+abbrev pub FinePlace : Choice → Site → Type 0
 FinePlace c (p.InPair n ps k) = FineNode n ps × (has k ps ≡ false)
 FinePlace c (p.InSet a ps k) = FineSet c a ps
 FinePlace c (p.InItem b xs) = FineBody c b items × Every (IsItem b.made.name) xs × (items_of c.named ≡ xs)
 
-abbrev pub FineTerms : Choice → Place → List Term → Type 0
+abbrev pub FineTerms : Choice → Site → List Term → Type 0
 FineTerms c w ts = FinePlace c w × Every (IsTerm (scope w)) ts
 
 abbrev pub FineDelete : Choice → Made → Type 0

@@ -12,10 +12,10 @@ use Rattle.ncc_cypher.specs.declared.tree.Head.TheVariants as h
 use Rattle.ncc_cypher.specs.declared.tree.Change.TheVariants as c
 use Rattle.ncc_cypher.specs.declared.tree.Tail.TheVariants as l
 use Rattle.ncc_cypher.specs.declared.tree.Statement.{Statement}
-use Rattle.ncc_cypher.specs.Place.{Made}
-use Rattle.ncc_cypher.specs.Place.{Body}
-use Rattle.ncc_cypher.specs.Place.{Place}
-use Rattle.ncc_cypher.specs.Place as p
+use Rattle.ncc_cypher.specs.Site.{Made}
+use Rattle.ncc_cypher.specs.Site.{Body}
+use Rattle.ncc_cypher.specs.Site.{Site}
+use Rattle.ncc_cypher.specs.Site as p
 use Rattle.ncc_cypher.specs.State.{State}
 use Rattle.ncc_cypher.specs.State as s
 use Rattle.ncc_cypher.specs.Grammar.{Name, Choice, change, item, named, head, changes, tail, tokens, IsItem, IsPair, Goes, nothing, Spells}
@@ -95,7 +95,7 @@ items_end k b xs x old y text fine is e =
     (ap (λ (z : List Token). head k.braces b.made.name b.made.head ++ (changes b.made.name b.change ++ (t.Return ∷ z))) (parted_last (named b.made.name) t.Comma k.named (record { item = x; name = None })) ∙ rw text (simp (append_assoc, append-nil)))
     (fine.0.0, fine.0.1, (not_empty xs x, Every_more (IsItem b.made.name) xs x fine.1 is, items_more k.named (record { item = x; name = None }) ∙ ap (λ (z : List Item). z ++ (x ∷ [])) fine.2), fine.0.2)
 
-name_ends : (k : Choice) (w : Place) (ts : List Term) (y : Statement) → Fine k (s.Owned w ts) → end_of_name w ts ≡ Some y → Ended k (s.Owned w ts) y
+name_ends : (k : Choice) (w : Site) (ts : List Term) (y : Statement) → Fine k (s.Owned w ts) → end_of_name w ts ≡ Some y → Ended k (s.Owned w ts) y
 name_ends k (p.InItem b xs) [] y f e = items_end k b xs i.Whole (s.Owned (p.InItem b xs) []) y refl f.0.0 f.1 e
 name_ends k (p.InItem b xs) (x ∷ ts) y f e = no_statement y e
 name_ends k (p.InPair n ps q) ts y f e = no_statement y e
@@ -107,7 +107,7 @@ set_nothing n (h.Create a qs) ps f = tt
 set_nothing n (h.Find a q) ps f = tt
 set_nothing n (h.Merge a q) ps f = tt
 
-sum_ends : (k : Choice) (w : Place) (ts : List Term) (y : Statement) → Fine k (s.After w ts) → end_of_sum w ts ≡ Some y → Ended k (s.After w ts) y
+sum_ends : (k : Choice) (w : Site) (ts : List Term) (y : Statement) → Fine k (s.After w ts) → end_of_sum w ts ≡ Some y → Ended k (s.After w ts) y
 sum_ends k (p.InPair n ps q) ts y f e = no_statement y e
 sum_ends k (p.InSet a ps q) ts y f e =
     let x : Pair = a_pair q ts in

@@ -9,7 +9,7 @@ pub mod Stops
 pub mod Grammar
 pub mod Verb
 pub mod Opening
-pub mod Place
+pub mod Site
 pub mod Slots
 pub mod State
 pub mod Machine

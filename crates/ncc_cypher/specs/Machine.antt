@@ -19,11 +19,11 @@ use Rattle.ncc_cypher.specs.Verb.{Verb}
 use Rattle.ncc_cypher.specs.Verb as v
 use Rattle.ncc_cypher.specs.Opening.{Opening}
 use Rattle.ncc_cypher.specs.Opening as o
-use Rattle.ncc_cypher.specs.Place.{Node}
-use Rattle.ncc_cypher.specs.Place.{Made}
-use Rattle.ncc_cypher.specs.Place.{Body}
-use Rattle.ncc_cypher.specs.Place.{Place}
-use Rattle.ncc_cypher.specs.Place as p
+use Rattle.ncc_cypher.specs.Site.{Node}
+use Rattle.ncc_cypher.specs.Site.{Made}
+use Rattle.ncc_cypher.specs.Site.{Body}
+use Rattle.ncc_cypher.specs.Site.{Site}
+use Rattle.ncc_cypher.specs.Site as p
 use Rattle.ncc_cypher.specs.State.{State}
 use Rattle.ncc_cypher.specs.State as s
 use Rattle.ncc_cypher.specs.Grammar.{Name, has, is_count}
@@ -41,7 +41,7 @@ is_bound None x = false
 is_bound (Some n) x = bytes_eq n x
 
 -- the name that a term may speak of
-abbrev pub scope : Place → Option Name
+abbrev pub scope : Site → Option Name
 scope (p.InPair node ps k) = None
 scope (p.InSet made ps k) = made.name
 scope (p.InItem body xs) = body.made.name
@@ -199,7 +199,7 @@ at_delete_return a _ = None
 
 -- ---- sums
 
-abbrev pub at_needs : Place → List Term → Token → Option State
+abbrev pub at_needs : Site → List Term → Token → Option State
 at_needs w ts t.Null = Some (s.After w (ts ++ (m.Null ∷ [])))
 at_needs w ts t.True = Some (s.After w (ts ++ (m.Bool true ∷ [])))
 at_needs w ts t.False = Some (s.After w (ts ++ (m.Bool false ∷ [])))
@@ -209,11 +209,11 @@ at_needs w ts t.Dollar = Some (s.Param w ts)
 at_needs w ts (t.Name x) = when (is_bound (scope w) x) (s.Owned w ts)
 at_needs w ts _ = None
 
-abbrev pub at_param : Place → List Term → Token → Option State
+abbrev pub at_param : Site → List Term → Token → Option State
 at_param w ts (t.Name x) = Some (s.After w (ts ++ (m.Param x ∷ [])))
 at_param w ts _ = None
 
-abbrev pub at_dotted : Place → List Term → Token → Option State
+abbrev pub at_dotted : Site → List Term → Token → Option State
 at_dotted w ts (t.Name x) = Some (s.After w (ts ++ (m.Prop x ∷ [])))
 at_dotted w ts _ = None
 
@@ -223,20 +223,20 @@ behind_item b xs y t.As = Some (s.Aliasing b xs y)
 behind_item b xs y _ = None
 
 -- behind the bound name alone
-abbrev pub behind_name : Place → List Term → Token → Option State
+abbrev pub behind_name : Site → List Term → Token → Option State
 behind_name (p.InItem b xs) [] x = behind_item b xs i.Whole x
 behind_name _ _ x = None
 
-abbrev pub at_owned : Place → List Term → Token → Option State
+abbrev pub at_owned : Site → List Term → Token → Option State
 at_owned w ts t.Dot = Some (s.Dotted w ts)
 at_owned w ts x = behind_name w ts x
 
-abbrev pub behind_sum : Place → List Term → Token → Option State
+abbrev pub behind_sum : Site → List Term → Token → Option State
 behind_sum (p.InPair n ps k) ts x = behind_pair n ps (a_pair k ts) x
 behind_sum (p.InSet a ps k) ts x = behind_change a (ps ++ (a_pair k ts ∷ [])) x
 behind_sum (p.InItem b xs) ts x = behind_item b xs (a_sum ts) x
 
-abbrev pub at_after : Place → List Term → Token → Option State
+abbrev pub at_after : Site → List Term → Token → Option State
 at_after w ts t.Plus = Some (s.Needs w ts)
 at_after w ts x = behind_sum w ts x
 
@@ -328,12 +328,12 @@ go (s.Done x) y = None
 abbrev pub no_find : Made → Option Statement
 no_find a = when (not (is_find a.head)) (a_statement (a_body a c.Keep) l.Nothing)
 
-abbrev pub end_of_sum : Place → List Term → Option Statement
+abbrev pub end_of_sum : Site → List Term → Option Statement
 end_of_sum (p.InPair n ps k) ts = None
 end_of_sum (p.InSet a ps k) ts = Some (a_statement (a_body a (c.Set (ps ++ (a_pair k ts ∷ [])))) l.Nothing)
 end_of_sum (p.InItem b xs) ts = Some (a_statement b (l.Items (xs ++ (a_sum ts ∷ []))))
 
-abbrev pub end_of_name : Place → List Term → Option Statement
+abbrev pub end_of_name : Site → List Term → Option Statement
 end_of_name (p.InItem b xs) [] = Some (a_statement b (l.Items (xs ++ (i.Whole ∷ []))))
 end_of_name _ _ = None
 

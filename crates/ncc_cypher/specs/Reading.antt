@@ -25,8 +25,8 @@ use Rattle.ncc_cypher.specs.Verb.{Verb}
 use Rattle.ncc_cypher.specs.Verb as a
 use Rattle.ncc_cypher.specs.Opening.{Opening}
 use Rattle.ncc_cypher.specs.Opening as o
-use Rattle.ncc_cypher.specs.Place.{Place, Node, Made, Body}
-use Rattle.ncc_cypher.specs.Place as p
+use Rattle.ncc_cypher.specs.Site.{Site, Node, Made, Body}
+use Rattle.ncc_cypher.specs.Site as p
 use Rattle.ncc_cypher.specs.State.{State}
 use Rattle.ncc_cypher.specs.State as s
 use Rattle.ncc_cypher.specs.Machine.{step, go, accepts, a_node}
@@ -187,7 +187,7 @@ NewKey ps _ = Unit {0}
 -- ---- states
 
 -- a bound name alone is no term
-abbrev pub Apart : Place → List Term → Type 0
+abbrev pub Apart : Site → List Term → Type 0
 Apart (p.InItem b xs) [] = ⊥
 Apart _ _ = Unit {0}
 

@@ -5,7 +5,7 @@ use Rattle.ncc_cypher.specs.declared.tree.Pair.{Pair}
 use Rattle.ncc_cypher.specs.declared.tree.Item.{Item}
 use Rattle.ncc_cypher.specs.declared.tree.Statement.{Statement}
 use Rattle.ncc_cypher.specs.Verb.{Verb}
-use Rattle.ncc_cypher.specs.Place.{Node, Made, Body, Place}
+use Rattle.ncc_cypher.specs.Site.{Node, Made, Body, Site}
 
 -- Further: a comma behind a pair of CREATE. Needs: a term has to follow. Owned: the bound name, where a term or an item
 -- may begin with it. After: a term. Closing: the closing brace. Returning: RETURN behind a head. Either: a word that is the
@@ -20,11 +20,11 @@ pub data State : Type 0 where
   Braced : Node → State
   Further : Node → List Pair → State
   Keyed : Node → List Pair → List ℕ → State
-  Needs : Place → List Term → State
-  Param : Place → List Term → State
-  Owned : Place → List Term → State
-  Dotted : Place → List Term → State
-  After : Place → List Term → State
+  Needs : Site → List Term → State
+  Param : Site → List Term → State
+  Owned : Site → List Term → State
+  Dotted : Site → List Term → State
+  After : Site → List Term → State
   Closing : Made → State
   Closed : Made → State
   Setting : Made → List Pair → State

@@ -4,7 +4,7 @@
 ghost use Rattle.std.specs.Prelude.{◌≡◌, ◌++◌, ◌∷◌, [], ℕ, List, Option, OnOk};
 ghost use Rattle.ncc_cypher.specs.declared.tree.Term.{Term};
 ghost use Rattle.ncc_cypher.specs.Grammar.{Name, is_count};
-ghost use Rattle.ncc_cypher.specs.Place.{Place};
+ghost use Rattle.ncc_cypher.specs.Site.{Site};
 ghost use Rattle.ncc_cypher.specs.State as s;
 ghost use Rattle.ncc_cypher.specs.Machine.{scope, is_bound};
 ghost use Rattle.ncc_cypher.specs.Reading.{Moves, Fewer, NotMore, Same, Inside, Within, NoName, NoPlus, Apart};
@@ -31,7 +31,7 @@ impl<'a> Reader<'a> {
         ensures fewer { OnOk result (Fewer self.old self.new) }
         ensures same { OnOk result (Same self.old self.new) }
         ensures inside { (start : Option (List ℕ)) (name : Name) → OnOk result (Inside start name self.old self.new) }
-        ensures moves { (names : List Name) (w : Place) (ts : List Term)
+        ensures moves { (names : List Name) (w : Site) (ts : List Term)
             → Moves names (s.Param w ts) (λ x. s.After w (ts ++ x ∷ [])) self.old self.new result }
     {
         match &self.token {
@@ -49,7 +49,7 @@ impl<'a> Reader<'a> {
         ensures fewer { OnOk result (Fewer self.old self.new) }
         ensures same { OnOk result (Same self.old self.new) }
         ensures inside { (start : Option (List ℕ)) (name : Name) → OnOk result (Inside start name self.old self.new) }
-        ensures moves { (names : List Name) (w : Place) (ts : List Term)
+        ensures moves { (names : List Name) (w : Site) (ts : List Term)
             → Moves names (s.Dotted w ts) (λ x. s.After w (ts ++ x ∷ [])) self.old self.new result }
     {
         match &self.token {
@@ -68,7 +68,7 @@ impl<'a> Reader<'a> {
         ensures fewer { OnOk result (Fewer self.old self.new) }
         ensures same { OnOk result (Same self.old self.new) }
         ensures inside { (start : Option (List ℕ)) (name : Name) → OnOk result (Inside start name self.old self.new) }
-        ensures moves { (names : List Name) (w : Place) (ts : List Term)
+        ensures moves { (names : List Name) (w : Site) (ts : List Term)
             → Moves names (s.Needs w ts) (λ x. s.After w (ts ++ x ∷ [])) self.old self.new result }
     {
         let term = match &self.token {
@@ -92,7 +92,7 @@ impl<'a> Reader<'a> {
         ensures fewer { OnOk result (Fewer self.old self.new) }
         ensures same { OnOk result (Same self.old self.new) }
         ensures inside { (start : Option (List ℕ)) (name : Name) → OnOk result (Inside start name self.old self.new) }
-        ensures moves { (names : List Name) (w : Place) (ts : List Term) → scope w ≡ bound.now → Apart w ts
+        ensures moves { (names : List Name) (w : Site) (ts : List Term) → scope w ≡ bound.now → Apart w ts
             → Moves names (s.Needs w ts) (λ x. s.After w (ts ++ x ∷ [])) self.old self.new result }
     {
         match &self.token {
@@ -119,7 +119,7 @@ impl<'a> Reader<'a> {
         ensures same { OnOk result (Same self.old self.new) }
         ensures inside { (start : List ℕ) → OnOk result (Within start self.old self.new) }
         ensures next { OnOk result (NoPlus self.new.token) }
-        ensures moves { (names : List Name) (w : Place) → scope w ≡ bound.now
+        ensures moves { (names : List Name) (w : Site) → scope w ≡ bound.now
             → Moves names (s.After w (first ∷ [])) (λ e. s.After w e.terms) self.old self.new result }
     {
         // Most sums are one term.
@@ -138,7 +138,7 @@ impl<'a> Reader<'a> {
         ensures fewer { OnOk result (Fewer self.old self.new) }
         ensures same { OnOk result (Same self.old self.new) }
         ensures next { OnOk result (NoPlus self.new.token) }
-        ensures moves { (names : List Name) (w : Place) → scope w ≡ bound.now → Apart w []
+        ensures moves { (names : List Name) (w : Site) → scope w ≡ bound.now → Apart w []
             → Moves names (s.Needs w []) (λ e. s.After w e.terms) self.old self.new result }
     {
         let first = self.term(bound)?;

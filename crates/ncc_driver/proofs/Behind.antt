@@ -14,7 +14,7 @@ use Rattle.ncc_driver.specs.declared.answers.Told.TheVariants as m
 use Rattle.ncc_driver.specs.Hearing.{awaits_more}
 use Rattle.ncc_driver.specs.Keeping.{core_keeps, told_fits}
 use Rattle.ncc_driver.specs.Work.{Row, Job, rows_fit}
-use Rattle.ncc_driver.specs.State.{Place, Makes, BehindAt, MakesWith}
+use Rattle.ncc_driver.specs.State.{SessionState, Makes, BehindAt, MakesWith}
 use Rattle.ncc_driver.specs.Talk.{StandsAsked, StandsAt}
 use Rattle.ncc_driver.specs.Attempts.{behind, follows, fails, refutes, succeeds, keeps_and_joins}
 use Rattle.ncc_driver.proofs.Kept.{Kept, kept_of, keeps_by, Quiet, behind_kept, follows_kept, fails_quiet, keeps_and_joins_quiet}
@@ -34,12 +34,12 @@ quiet_all : (config : SessionConfig) (job : Job) (now : ℕ) (asked : Asked) (nu
     → Makes (λ p. behind config job now p asked number told) old new before after
     → Behind config job now asked number told old new before after stood stands
 quiet_all config job now asked number told old new before after stood stands f k q m =
-    let p : Place = record { core = old; told = None } in
-    let e : (behind config job now p asked number told).place.core ≡ new = ap (λ (x : Place). x.core) (m None).0 in
+    let p : SessionState = record { core = old; told = None } in
+    let e : (behind config job now p asked number told).place.core ≡ new = ap (λ (x : SessionState). x.core) (m None).0 in
     let quiet : awaits_more new.stage ≡ false = subst (λ (c : Core). awaits_more c.stage ≡ false) e q in
     record {
       ok = λ o h. (
-        ap (λ (x : Place). x.core) (m o).0,
+        ap (λ (x : SessionState). x.core) (m o).0,
         (m o).1,
         quiet_behind new.stage stands (behind config job now (record { core = old; told = o }) asked number told).place.told quiet,
       );

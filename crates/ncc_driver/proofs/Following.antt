@@ -15,7 +15,7 @@ use Rattle.ncc_driver.specs.declared.action.Action.{Action}
 use Rattle.ncc_driver.specs.declared.work.WorkStep.{WorkStep}
 use Rattle.ncc_driver.specs.Hearing.{awaits_more}
 use Rattle.ncc_driver.specs.Work.{Row, job_by, rows_fit}
-use Rattle.ncc_driver.specs.State.{Place, Makes, BehindAt, MakesWith}
+use Rattle.ncc_driver.specs.State.{SessionState, Makes, BehindAt, MakesWith}
 use Rattle.ncc_driver.specs.Talk.{StandsSomewhere, StandsAsked, StandsAt}
 use Rattle.ncc_driver.specs.Attempts.{follows, follows_hello, takes_step}
 
@@ -67,7 +67,7 @@ quiet_stands stage.Sleeps stands q = tt
 
 -- ---- behind HELLO, and behind the rows of a step
 
-hello_stands_by : (writes : Bool) (p : Place) (leg : Leg) (stands : Rows → Type 0)
+hello_stands_by : (writes : Bool) (p : SessionState) (leg : Leg) (stands : Rows → Type 0)
     → StandsAt (follows_hello writes p leg).place.core.stage stands
 hello_stands_by writes p Routing stands = tt
 hello_stands_by writes p Working stands = tt
@@ -75,19 +75,19 @@ hello_stands_by writes p Working stands = tt
 pub hello_stands : (writes : Bool) (leg : Leg) (old new : Core) (before after : List Action) (stands : Rows → Type 0)
     → Makes (λ p. follows_hello writes p leg) old new before after → StandsAt new.stage stands
 hello_stands writes leg old new before after stands m =
-    let p : Place = record { core = old; told = None } in
-    subst (λ (c : Core). StandsAt c.stage stands) (ap (λ (x : Place). x.core) (m None).0) (hello_stands_by writes p leg stands)
+    let p : SessionState = record { core = old; told = None } in
+    subst (λ (c : Core). StandsAt c.stage stands) (ap (λ (x : SessionState). x.core) (m None).0) (hello_stands_by writes p leg stands)
 
 -- the next step of a work that stands behind these rows
-step_makes : (p : Place) (step : WorkStep) (new : Core) (before after : List Action) (stands : Rows → Type 0) (told : Rows)
+step_makes : (p : SessionState) (step : WorkStep) (new : Core) (before after : List Action) (stands : Rows → Type 0) (told : Rows)
     → ((takes_step (record { core = p.core; told = Some told }) step).place ≡ record { core = new; told = Some told })
     × (after ≡ before ++ (takes_step (record { core = p.core; told = Some told }) step).actions) → stands told
     → let t = takes_step (record { core = p.core; told = Some told }) step in
     (t.place.core ≡ new) × (after ≡ before ++ t.actions) × BehindAt new.stage stands t.place.told
 step_makes p step new before after stands told m h =
     let t = takes_step (record { core = p.core; told = Some told }) step in
-    let told_is : t.place.told ≡ Some told = ap (λ (x : Place). x.told) m.0 in (
-      ap (λ (x : Place). x.core) m.0,
+    let told_is : t.place.told ≡ Some told = ap (λ (x : SessionState). x.told) m.0 in (
+      ap (λ (x : SessionState). x.core) m.0,
       m.1,
       subst (λ (o : Option Rows). BehindAt new.stage stands o) (sym told_is) (behind_some new.stage stands told h),
     )

@@ -17,7 +17,7 @@ use Rattle.ncc_driver.specs.declared.action.Last.TheVariants as last
 use Rattle.ncc_driver.specs.Config.{config_fits}
 use Rattle.ncc_driver.specs.Keeping.{as_text, core_keeps}
 use Rattle.ncc_driver.specs.Requests.{closes}
-use Rattle.ncc_driver.specs.State.{Place, Turned, Makes}
+use Rattle.ncc_driver.specs.State.{SessionState, Turned, Makes}
 use Rattle.ncc_driver.specs.Attempts.{connects, retries, joins, joins_server, joins_by, joins_router, role_of, addresses_in, or_else, drawn}
 use Rattle.ncc_driver.specs.Attempts.{drops_table, at_core, one_more, keeps_table, keeps_and_joins}
 use Rattle.ncc_driver.proofs.Turning.{closed}
@@ -47,7 +47,7 @@ pub server_some : (writes : Bool) (now : ℕ) (core new : Core) (word : ℕ) (wo
     → Makes (λ p. connects p p.core Working address) (record core { words = words }) new before after
     → Makes (λ p. joins_server writes p now) core new before after
 server_some writes now core new word words role found address before after r w e f h told =
-    let p : Place = record { core = core; told = told } in
+    let p : SessionState = record { core = core; told = told } in
     let o = picked_is writes core word words role (Some (v.Text address)) r w (e ∙ ap as_text f) in
     let is : joins_server writes p now ≡ connects p (drawn core) Working address =
     ap (λ (x : Option Value). joins p now (role_of writes) (drawn core) x) o in
@@ -61,7 +61,7 @@ pub server_none : (writes : Bool) (now : ℕ) (core new : Core) (word : ℕ) (wo
     → Makes (λ p. retries p now (last.NoServer role)) (record core { words = words; table = None }) new before after
     → Makes (λ p. joins_server writes p now) core new before after
 server_none writes now core new word words role found before after r w e f h told =
-    let p : Place = record { core = core; told = told } in
+    let p : SessionState = record { core = core; told = told } in
     let o = picked_is writes core word words role None r w (e ∙ ap as_text f) in
     let is : joins_server writes p now ≡ retries (drops_table (at_core p (drawn core))) now (last.NoServer (role_of writes)) =
     ap (λ (x : Option Value). joins p now (role_of writes) (drawn core) x) o in
@@ -77,7 +77,7 @@ pub router_some : (config : SessionConfig) (core new : Core) (all : List Value) 
     → Makes (λ p. connects p p.core Routing address) (record core { connects = count }) new before after
     → Makes (λ p. joins_router config p) core new before after
 router_some config core new all found address count before after a e f n h told =
-    let p : Place = record { core = core; told = told } in
+    let p : SessionState = record { core = core; told = told } in
     let counted : Core = record core { connects = one_more core.connects } in
     let o : picked core.connects (or_else core.route config.routers) ≡ Some (v.Text address) =
     ap (λ (xs : List Value). picked core.connects xs) (sym a) ∙ e ∙ ap as_text f in
@@ -88,10 +88,10 @@ router_some config core new all found address count before after a e f n h told 
 
 -- ---- an attempt
 
-made_kept : (turn : Place → Turned) (old new : Core) (before after : List Action) → Makes turn old new before after
+made_kept : (turn : SessionState → Turned) (old new : Core) (before after : List Action) → Makes turn old new before after
     → Kept (turn (record { core = old; told = None })).place.core → core_keeps new ≡ true
 made_kept turn old new before after h k =
-    let e : (turn (record { core = old; told = None })).place.core ≡ new = ap (λ (p : Place). p.core) (h None).0 in
+    let e : (turn (record { core = old; told = None })).place.core ≡ new = ap (λ (p : SessionState). p.core) (h None).0 in
     keeps_by new (subst (λ (c : Core). Kept c) e k)
 
 opened_kept : (core : Core) (count : ℕ) (rows : List Row) → rows ≡ [] → Kept core → Kept (record core { attempts = count; rows = rows })

@@ -29,7 +29,7 @@ use Rattle.ncc_driver.specs.Keeping.{core_keeps, table_fits, addresses_fit, told
 use Rattle.ncc_driver.specs.Hearing.{awaits_more}
 use Rattle.ncc_driver.specs.Spelling.{list_within}
 use Rattle.ncc_driver.specs.Work.{Job, rows_fit}
-use Rattle.ncc_driver.specs.State.{Place, Turned}
+use Rattle.ncc_driver.specs.State.{SessionState, Turned}
 use Rattle.ncc_driver.specs.Attempts.{retries, sleeps, loses, fails, succeeds, is_spent, is_transient, is_no_leader}
 use Rattle.ncc_driver.specs.Attempts.{drops_table, connects, joins, joins_server, joins_by, joins_router, role_of, addresses_in, or_else}
 use Rattle.ncc_driver.specs.Attempts.{drawn}
@@ -93,7 +93,7 @@ stage_kept core s k = record {
 short_delay : (delay : ℕ) → nat_le (next_delay delay) 30_000 ≡ true
 short_delay delay = le-leb (next_delay delay) 30_000 (omega arith)
 
-sleeps_kept : (p : Place) (now : ℕ) → Kept p.core → Kept (sleeps p now).place.core
+sleeps_kept : (p : SessionState) (now : ℕ) → Kept p.core → Kept (sleeps p now).place.core
 sleeps_kept p now k = record {
   bookmarks = k.bookmarks;
   few = k.few;
@@ -108,7 +108,7 @@ if_kept : (b : Bool) (t u : Turned) → Kept t.place.core → Kept u.place.core 
 if_kept true t u k l = k
 if_kept false t u k l = l
 
-pub retries_kept : (p : Place) (now : ℕ) (last : Last) → Kept p.core → Kept (retries p now last).place.core
+pub retries_kept : (p : SessionState) (now : ℕ) (last : Last) → Kept p.core → Kept (retries p now last).place.core
 retries_kept p now last k =
     if_kept (is_spent now p.core.began) _ _ (stage_kept p.core stage.Rests k) (sleeps_kept p now k)
 
@@ -123,15 +123,15 @@ dropped core k = record {
   delay = k.delay;
 }
 
-pub loses_kept : (p : Place) (now : ℕ) → Kept p.core → Kept (loses p now).place.core
+pub loses_kept : (p : SessionState) (now : ℕ) → Kept p.core → Kept (loses p now).place.core
 loses_kept p now k = retries_kept (drops_table p) now _ (dropped p.core k)
 
-fails_kept : (p : Place) (now : ℕ) (code : List ℕ) → Kept p.core → Kept (fails p now code).place.core
+fails_kept : (p : SessionState) (now : ℕ) (code : List ℕ) → Kept p.core → Kept (fails p now code).place.core
 fails_kept p now code k =
     if_kept (is_transient code) _ _ (retries_kept p now _ k)
     (if_kept (is_no_leader code) _ _ (retries_kept (drops_table p) now _ (dropped p.core k)) (stage_kept p.core stage.Rests k))
 
-succeeds_kept : (p : Place) (bookmark : List ℕ) → fits (v.Text bookmark) ≡ true → Kept p.core → Kept (succeeds p bookmark).place.core
+succeeds_kept : (p : SessionState) (bookmark : List ℕ) → fits (v.Text bookmark) ≡ true → Kept p.core → Kept (succeeds p bookmark).place.core
 unfolding text_has_spelling
 succeeds_kept p bookmark h k = record {
   bookmarks = rw h refl;
@@ -180,7 +180,7 @@ got_address (x ∷ xs) (suc i) h = got_address xs i (right (text_has_spelling x)
 pub picked_address : (word : ℕ) (xs : List Value) → texts_fit xs ≡ true → IsAddress (picked word xs)
 picked_address word xs h = got_address xs (word % length xs) h
 
-connects_kept : (p : Place) (core : Core) (leg : Leg) (t : List ℕ) → fits (v.Text t) ≡ true → Kept core
+connects_kept : (p : SessionState) (core : Core) (leg : Leg) (t : List ℕ) → fits (v.Text t) ≡ true → Kept core
     → Kept (connects p core leg t).place.core
 connects_kept p core leg t h k = record {
   bookmarks = k.bookmarks;
@@ -192,13 +192,13 @@ connects_kept p core leg t h k = record {
   delay = k.delay;
 }
 
-joins_kept : (p : Place) (now : ℕ) (role : Role) (core : Core) (o : Option Value) → IsAddress o → Kept core
+joins_kept : (p : SessionState) (now : ℕ) (role : Role) (core : Core) (o : Option Value) → IsAddress o → Kept core
     → Kept (joins p now role core o).place.core
 joins_kept p now role core None h k = retries_kept (drops_table (at_core p core)) now _ (dropped core k)
 joins_kept p now role core (Some x) h k =
     subst (λ (y : Value). Kept (joins p now role core (Some y)).place.core) (sym h.1) (connects_kept p core Working h.0 h.2 k)
 
-joins_by_kept : (p : Place) (core : Core) (o : Option Value) → IsAddress o → Kept core → Kept (joins_by p core o).place.core
+joins_by_kept : (p : SessionState) (core : Core) (o : Option Value) → IsAddress o → Kept core → Kept (joins_by p core o).place.core
 joins_by_kept p core None h k = k
 joins_by_kept p core (Some x) h k =
     subst (λ (y : Value). Kept (joins_by p core (Some y)).place.core) (sym h.1) (connects_kept p core Routing h.0 h.2 k)
@@ -220,7 +220,7 @@ drawn_kept core k = record {
   delay = k.delay;
 }
 
-pub joins_server_kept : (writes : Bool) (p : Place) (now : ℕ) → Kept p.core → Kept (joins_server writes p now).place.core
+pub joins_server_kept : (writes : Bool) (p : SessionState) (now : ℕ) → Kept p.core → Kept (joins_server writes p now).place.core
 joins_server_kept writes p now k =
     joins_kept p now (role_of writes) (drawn p.core) _ (picked_address _ _ (role_texts writes p.core.table k.table)) (drawn_kept p.core k)
 
@@ -229,7 +229,7 @@ pub routers_fit : (config : SessionConfig) (route : List Value) → config_fits 
 routers_fit config [] h r = right _ _ (left _ _ (left _ _ h))
 routers_fit config (x ∷ xs) h r = r
 
-pub joins_router_kept : (config : SessionConfig) (p : Place) → config_fits config ≡ true → Kept p.core
+pub joins_router_kept : (config : SessionConfig) (p : SessionState) → config_fits config ≡ true → Kept p.core
     → Kept (joins_router config p).place.core
 joins_router_kept config p h k =
     joins_by_kept p _ (router_of config p.core) (picked_address _ _ (routers_fit config p.core.route h k.route)) (record {
@@ -242,7 +242,7 @@ joins_router_kept config p h k =
       delay = k.delay;
     })
 
-pub attempts_kept : (config : SessionConfig) (writes : Bool) (p : Place) (now : ℕ) → config_fits config ≡ true → Kept p.core
+pub attempts_kept : (config : SessionConfig) (writes : Bool) (p : SessionState) (now : ℕ) → config_fits config ≡ true → Kept p.core
     → Kept (attempts config writes p now).place.core
 attempts_kept config writes p now h k =
     let o : Kept (opened p).core = record {
@@ -258,15 +258,15 @@ attempts_kept config writes p now h k =
 
 -- ---- behind an answer
 
-step_kept : (p : Place) (step : WorkStep) → Kept p.core → Kept (takes_step p step).place.core
+step_kept : (p : SessionState) (step : WorkStep) → Kept p.core → Kept (takes_step p step).place.core
 step_kept p (w.Run query params) k = stage_kept p.core (stage.Awaits a.Run) k
 step_kept p w.Commit k = stage_kept p.core (stage.Awaits a.Commit) k
 
-hello_kept : (writes : Bool) (p : Place) (leg : Leg) → Kept p.core → Kept (follows_hello writes p leg).place.core
+hello_kept : (writes : Bool) (p : SessionState) (leg : Leg) → Kept p.core → Kept (follows_hello writes p leg).place.core
 hello_kept writes p Routing k = stage_kept p.core (stage.Awaits a.Route) k
 hello_kept writes p Working k = stage_kept p.core (stage.Awaits a.Begin) k
 
-pub follows_kept : (config : SessionConfig) (job : Job) (p : Place) (asked : Asked) → Kept p.core
+pub follows_kept : (config : SessionConfig) (job : Job) (p : SessionState) (asked : Asked) → Kept p.core
     → Kept (follows config job p asked).place.core
 follows_kept config job p (a.Shake leg) k = stage_kept p.core (stage.Awaits (a.Hello leg)) k
 follows_kept config job p (a.Hello leg) k = hello_kept job.writes p leg k
@@ -284,7 +284,7 @@ follows_kept config job p a.Pull k = step_kept _ (job.steps _) k
 follows_kept config job p a.Route k = k
 follows_kept config job p a.Commit k = k
 
-pub table_kept : (p : Place) (table : Table) → addresses_fit table ≡ true → Kept p.core → Kept (keeps_table p table).core
+pub table_kept : (p : SessionState) (table : Table) → addresses_fit table ≡ true → Kept p.core → Kept (keeps_table p table).core
 table_kept p table h k = record {
   bookmarks = k.bookmarks;
   few = k.few;
@@ -295,7 +295,7 @@ table_kept p table h k = record {
   delay = k.delay;
 }
 
-pub behind_kept : (config : SessionConfig) (job : Job) (now : ℕ) (p : Place) (asked : Asked) (number : ℕ) (told : Told)
+pub behind_kept : (config : SessionConfig) (job : Job) (now : ℕ) (p : SessionState) (asked : Asked) (number : ℕ) (told : Told)
     → told_fits p.core.rows told ≡ true → Kept p.core → Kept (behind config job now p asked number told).place.core
 behind_kept config job now p asked number m.Done h k = follows_kept config job p asked k
 behind_kept config job now p asked number (m.Row fields) h k = record {
@@ -322,32 +322,32 @@ if_quiet : (b : Bool) (t u : Turned) → Quiet t → Quiet u → Quiet (if b the
 if_quiet true t u k l = k
 if_quiet false t u k l = l
 
-pub retries_quiet : (p : Place) (now : ℕ) (last : Last) → Quiet (retries p now last)
+pub retries_quiet : (p : SessionState) (now : ℕ) (last : Last) → Quiet (retries p now last)
 retries_quiet p now last = if_quiet (is_spent now p.core.began) _ _ refl refl
 
-pub fails_quiet : (p : Place) (now : ℕ) (code : List ℕ) → Quiet (fails p now code)
+pub fails_quiet : (p : SessionState) (now : ℕ) (code : List ℕ) → Quiet (fails p now code)
 fails_quiet p now code =
     if_quiet (is_transient code) _ _ (retries_quiet p now _) (if_quiet (is_no_leader code) _ _ (retries_quiet (drops_table p) now _) refl)
 
-joins_quiet : (p : Place) (now : ℕ) (role : Role) (core : Core) (o : Option Value) → IsAddress o → Quiet (joins p now role core o)
+joins_quiet : (p : SessionState) (now : ℕ) (role : Role) (core : Core) (o : Option Value) → IsAddress o → Quiet (joins p now role core o)
 joins_quiet p now role core None h = retries_quiet (drops_table (at_core p core)) now _
 joins_quiet p now role core (Some x) h = subst (λ (y : Value). Quiet (joins p now role core (Some y))) (sym h.1) refl
 
-joins_by_quiet : (p : Place) (core : Core) (o : Option Value) → IsAddress o → awaits_more core.stage ≡ false → Quiet (joins_by p core o)
+joins_by_quiet : (p : SessionState) (core : Core) (o : Option Value) → IsAddress o → awaits_more core.stage ≡ false → Quiet (joins_by p core o)
 joins_by_quiet p core None h q = q
 joins_by_quiet p core (Some x) h q = subst (λ (y : Value). Quiet (joins_by p core (Some y))) (sym h.1) refl
 
-pub joins_server_quiet : (writes : Bool) (p : Place) (now : ℕ) → Kept p.core → Quiet (joins_server writes p now)
+pub joins_server_quiet : (writes : Bool) (p : SessionState) (now : ℕ) → Kept p.core → Quiet (joins_server writes p now)
 joins_server_quiet writes p now k =
     joins_quiet p now (role_of writes) (drawn p.core) _ (picked_address _ _ (role_texts writes p.core.table k.table))
 
-pub attempts_quiet : (config : SessionConfig) (writes : Bool) (p : Place) (now : ℕ) → config_fits config ≡ true → Kept p.core
+pub attempts_quiet : (config : SessionConfig) (writes : Bool) (p : SessionState) (now : ℕ) → config_fits config ≡ true → Kept p.core
     → awaits_more p.core.stage ≡ false → Quiet (attempts config writes p now)
 attempts_quiet config writes p now h k q =
     if_quiet (is_fresh now p.core.table) _ _
     (joins_quiet (opened p) now (role_of writes) (drawn (opened p).core) _ (picked_address _ _ (role_texts writes p.core.table k.table)))
     (joins_by_quiet (opened p) _ (router_of config (opened p).core) (picked_address _ _ (routers_fit config p.core.route h k.route)) q)
 
-pub keeps_and_joins_quiet : (writes : Bool) (now : ℕ) (p : Place) (table : Table) → addresses_fit table ≡ true → Kept p.core
+pub keeps_and_joins_quiet : (writes : Bool) (now : ℕ) (p : SessionState) (table : Table) → addresses_fit table ≡ true → Kept p.core
     → Quiet (keeps_and_joins writes now p table)
 keeps_and_joins_quiet writes now p table h k = joins_server_quiet writes (keeps_table p table) now (table_kept p table h k)

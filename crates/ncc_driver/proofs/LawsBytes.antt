@@ -43,7 +43,7 @@ use Rattle.ncc_driver.specs.Work.{Row, Job}
 use Rattle.ncc_driver.specs.Config.{config_fits}
 use Rattle.ncc_driver.specs.Keeping.{told_fits}
 use Rattle.ncc_driver.specs.Answers.{text_in, value_at, told_code, response_of}
-use Rattle.ncc_driver.specs.State.{Place, new_core}
+use Rattle.ncc_driver.specs.State.{SessionState, new_core}
 use Rattle.ncc_driver.specs.Attempts.{at_core, finishes, refuses, retries, sleeps, is_spent, drops_table}
 use Rattle.ncc_driver.specs.Attempts.{is_transient, is_no_leader, joins, joins_server, joins_by, joins_router, router_of, one_more, role_of}
 use Rattle.ncc_driver.specs.Attempts.{drawn, addresses_in, opened, is_fresh, takes_step, follows_hello, follows, keeps_table}
@@ -184,37 +184,37 @@ connect_in (Sleep until ∷ front) address back h = connect_in front address bac
 connect_in (Receive ∷ front) address back h = connect_in front address back h
 connect_in (Finish end ∷ front) address back h = connect_in front address back h
 
-retry_fits : (p : Place) (now : ℕ) (reason : Last) (spent : Bool)
+retry_fits : (p : SessionState) (now : ℕ) (reason : Last) (spent : Bool)
     → ConnectsFit (if spent then finishes p (Err (e.RetriesSpent p.core.attempts reason)) else sleeps p now).actions
 retry_fits p now reason true = tt
 retry_fits p now reason false = tt
 
-retries_fit : (p : Place) (now : ℕ) (reason : Last) → ConnectsFit (retries p now reason).actions
+retries_fit : (p : SessionState) (now : ℕ) (reason : Last) → ConnectsFit (retries p now reason).actions
 retries_fit p now reason = retry_fits p now reason (is_spent now p.core.began)
 
-fell_fits : (p : Place) (now : ℕ) (code : List ℕ) (again leaderless : Bool)
+fell_fits : (p : SessionState) (now : ℕ) (code : List ℕ) (again leaderless : Bool)
     → ConnectsFit (if again then retries p now (last.Code code) else if leaderless then retries (drops_table p) now (last.Code code)
     else refuses p code).actions
 fell_fits p now code true leaderless = retries_fit p now (last.Code code)
 fell_fits p now code false true = retries_fit (drops_table p) now (last.Code code)
 fell_fits p now code false false = tt
 
-joins_fit : (p : Place) (now : ℕ) (role : Role) (core : Core) (found : Option Value) → IsAddress found
+joins_fit : (p : SessionState) (now : ℕ) (role : Role) (core : Core) (found : Option Value) → IsAddress found
     → ConnectsFit (joins p now role core found).actions
 joins_fit p now role core None h = retries_fit (drops_table (at_core p core)) now (last.NoServer role)
 joins_fit p now role core (Some x) h =
     subst (λ (y : Value). ConnectsFit (joins p now role core (Some y)).actions) (sym h.1) (h.2, tt)
 
-joins_by_fit : (p : Place) (core : Core) (found : Option Value) → IsAddress found → ConnectsFit (joins_by p core found).actions
+joins_by_fit : (p : SessionState) (core : Core) (found : Option Value) → IsAddress found → ConnectsFit (joins_by p core found).actions
 joins_by_fit p core None h = tt
 joins_by_fit p core (Some x) h = subst (λ (y : Value). ConnectsFit (joins_by p core (Some y)).actions) (sym h.1) (h.2, tt)
 
-server_fits : (writes : Bool) (p : Place) (now : ℕ) → Kept p.core → ConnectsFit (joins_server writes p now).actions
+server_fits : (writes : Bool) (p : SessionState) (now : ℕ) → Kept p.core → ConnectsFit (joins_server writes p now).actions
 server_fits writes p now k =
     joins_fit p now (role_of writes) (drawn p.core) (picked (pcg32 p.core.words).0 (addresses_in (role_of writes) p.core.table))
     (picked_address _ _ (role_texts writes p.core.table k.table))
 
-attempt_fits : (config : SessionConfig) (writes : Bool) (p : Place) (now : ℕ) (fresh : Bool) → config_fits config ≡ true → Kept p.core
+attempt_fits : (config : SessionConfig) (writes : Bool) (p : SessionState) (now : ℕ) (fresh : Bool) → config_fits config ≡ true → Kept p.core
     → ConnectsFit (if fresh then joins_server writes (opened p) now else joins_router config (opened p)).actions
 attempt_fits config writes p now true c k =
     let q = opened p in
@@ -225,15 +225,15 @@ attempt_fits config writes p now false c k =
     joins_by_fit q (record q.core { connects = one_more q.core.connects }) (router_of config q.core)
     (picked_address _ _ (routers_fit config q.core.route c k.route))
 
-step_fits : (p : Place) (step : WorkStep) → ConnectsFit (takes_step p step).actions
+step_fits : (p : SessionState) (step : WorkStep) → ConnectsFit (takes_step p step).actions
 step_fits p (w.Run query params) = tt
 step_fits p w.Commit = tt
 
-hello_fits : (writes : Bool) (p : Place) (leg : Leg) → ConnectsFit (follows_hello writes p leg).actions
+hello_fits : (writes : Bool) (p : SessionState) (leg : Leg) → ConnectsFit (follows_hello writes p leg).actions
 hello_fits writes p Routing = tt
 hello_fits writes p Working = tt
 
-follow_fits : (config : SessionConfig) (job : Job) (p : Place) (asked : Asked) → ConnectsFit (follows config job p asked).actions
+follow_fits : (config : SessionConfig) (job : Job) (p : SessionState) (asked : Asked) → ConnectsFit (follows config job p asked).actions
 follow_fits config job p (a.Shake leg) = tt
 follow_fits config job p (a.Hello leg) = hello_fits job.writes p leg
 follow_fits config job p a.Begin = step_fits (record { core = p.core; told = Some [] }) (job.steps [])
@@ -243,7 +243,7 @@ follow_fits config job p a.Pull =
 follow_fits config job p a.Route = tt
 follow_fits config job p a.Commit = tt
 
-answer_fits : (config : SessionConfig) (job : Job) (now : ℕ) (p : Place) (asked : Asked) (number : ℕ) (told : Told)
+answer_fits : (config : SessionConfig) (job : Job) (now : ℕ) (p : SessionState) (asked : Asked) (number : ℕ) (told : Told)
     → told_fits p.core.rows told ≡ true → Kept p.core → ConnectsFit (behind config job now p asked number told).actions
 answer_fits config job now p asked number says.Done h k = follow_fits config job p asked
 answer_fits config job now p asked number (says.Row fields) h k = tt
@@ -255,7 +255,7 @@ answer_fits config job now p asked number says.Bad h k = tt
 
 -- ---- what is heard and told
 
-pub record Fine (q : Place) (actions : List Action) : Type 0 where
+pub record Fine (q : SessionState) (actions : List Action) : Type 0 where
   pub kept : Kept q.core
   pub connects : ConnectsFit actions
 

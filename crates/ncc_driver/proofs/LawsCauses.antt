@@ -29,7 +29,7 @@ use Rattle.ncc_driver.specs.declared.answers.Told.TheVariants as says
 use Rattle.ncc_driver.specs.declared.work.WorkStep.{WorkStep}
 use Rattle.ncc_driver.specs.declared.work.WorkStep.TheVariants as w
 use Rattle.ncc_driver.specs.Work.{Job}
-use Rattle.ncc_driver.specs.State.{Place, Turned}
+use Rattle.ncc_driver.specs.State.{SessionState, Turned}
 use Rattle.ncc_driver.specs.Attempts.{retries, finishes, sleeps, is_spent, done_of, transient, not_a_leader, is_transient, is_no_leader}
 use Rattle.ncc_driver.specs.Attempts.{role_of, joins, drawn, drops_table, at_core, joins_server, addresses_in, joins_by}
 use Rattle.ncc_driver.specs.Attempts.{joins_router, router_of}
@@ -219,7 +219,7 @@ not_late now began e l = absurd (grind arith)
 module _ (here : Moment) (C : End → Type 0) (F : Last → Type 0) (attempts : ℕ) (reason : Last) (fails : F reason)
     (one : (r : Last) → F r → r ≡ reason) (spent : 30_000 ≤ here.now - here.began → C (Err (error.RetriesSpent attempts reason)))
     (only : OnlySpent here C F attempts) where
-  retry_by : (p : Place) → p.core.began ≡ here.began → p.core.attempts ≡ attempts → (late : Bool)
+  retry_by : (p : SessionState) → p.core.began ≡ here.began → p.core.attempts ≡ attempts → (late : Bool)
       → is_spent here.now p.core.began ≡ late
       → Exactly (if late then finishes p (Err (error.RetriesSpent p.core.attempts reason)) else sleeps p here.now).actions C
   retry_by p b n true e =
@@ -233,7 +233,7 @@ module _ (here : Moment) (C : End → Type 0) (F : Last → Type 0) (attempts : 
   retry_by p b n false e = no_end (sleeps p here.now).actions C (λ end h. h) (λ end h.
       not_late here.now p.core.began e (subst (λ (x : ℕ). 30_000 ≤ here.now - x) (sym b) (only end h).4))
 
-  retry_ends : (p : Place) → p.core.began ≡ here.began → p.core.attempts ≡ attempts → Exactly (retries p here.now reason).actions C
+  retry_ends : (p : SessionState) → p.core.began ≡ here.began → p.core.attempts ≡ attempts → Exactly (retries p here.now reason).actions C
   retry_ends p b n = retry_by p b n (is_spent here.now p.core.began) refl
 
 -- ---- codes
@@ -294,7 +294,7 @@ record Serves (here : Moment) (C : End → Type 0) (F : Last → Type 0) (attemp
   only : OnlySpent here C F attempts
 
 module _ (here : Moment) (C : End → Type 0) (F : Last → Type 0) (attempts : ℕ) (table : Table) (s : Serves here C F attempts table)
-    (p : Place) (held : p.core.table ≡ Some table) (b : p.core.began ≡ here.began) (n : p.core.attempts ≡ attempts) where
+    (p : SessionState) (held : p.core.table ≡ Some table) (b : p.core.began ≡ here.began) (n : p.core.attempts ≡ attempts) where
   abbrev joins_of : List Value → Turned
   joins_of found = joins p here.now (role_of here.job.writes) (drawn p.core) (picked (pcg32 p.core.words).0 found)
 
@@ -368,7 +368,7 @@ fresh_is now table e = grind arith
 is_fresh_at : (now : ℕ) (table : Table) → now < ends table → nat_lt now (ends table) ≡ true
 is_fresh_at now table l = grind arith
 
-routed_nowhere : (p : Place) (core : Core) (found : Option Value) (end : End) → Ends (joins_by p core found).actions end → ⊥
+routed_nowhere : (p : SessionState) (core : Core) (found : Option Value) (end : End) → Ends (joins_by p core found).actions end → ⊥
 routed_nowhere p core (Some (v.Text address)) end h = h
 routed_nowhere p core _ end h = h
 
@@ -400,15 +400,15 @@ starts_by config here s held e t false f =
 
 -- ---- answers
 
-steps_nowhere : (p : Place) (step : WorkStep) (end : End) → Ends (takes_step p step).actions end → ⊥
+steps_nowhere : (p : SessionState) (step : WorkStep) (end : End) → Ends (takes_step p step).actions end → ⊥
 steps_nowhere p (w.Run query params) end h = h
 steps_nowhere p w.Commit end h = h
 
-greets_nowhere : (writes : Bool) (p : Place) (leg : Leg) (end : End) → Ends (follows_hello writes p leg).actions end → ⊥
+greets_nowhere : (writes : Bool) (p : SessionState) (leg : Leg) (end : End) → Ends (follows_hello writes p leg).actions end → ⊥
 greets_nowhere writes p Routing end h = h
 greets_nowhere writes p Working end h = h
 
-follows_nowhere : (config : SessionConfig) (job : Job) (p : Place) (asked : Asked) (end : End)
+follows_nowhere : (config : SessionConfig) (job : Job) (p : SessionState) (asked : Asked) (end : End)
     → Ends (follows config job p asked).actions end → ⊥
 follows_nowhere config job p (a.Shake leg) end h = h
 follows_nowhere config job p (a.Hello leg) end h = greets_nowhere job.writes p leg end h
@@ -460,7 +460,7 @@ failed_spent here asked number code may (Err (error.Refused n c)) h = absurd (h.
 failed_spent here asked number code may _ h = absurd h
 
 -- a code that may be tried again
-tried_again : (here : Moment) (asked : Asked) (number : ℕ) (code : List ℕ) → MayBeTriedAgain code → (p : Place)
+tried_again : (here : Moment) (asked : Asked) (number : ℕ) (code : List ℕ) → MayBeTriedAgain code → (p : SessionState)
     → p.core.began ≡ here.began → p.core.attempts ≡ here.place.core.attempts
     → Exactly (retries p here.now (last.Code code)).actions (λ end. ToldCause here asked number end (says.Failed code))
 tried_again here asked number code may p b n =

@@ -15,7 +15,7 @@ use Rattle.ncc_driver.specs.declared.action.Last.{Last}
 use Rattle.ncc_driver.specs.declared.action.Last.TheVariants as last
 use Rattle.ncc_driver.specs.declared.action.WorkError.TheVariants as e
 use Rattle.ncc_driver.specs.Work.{Job}
-use Rattle.ncc_driver.specs.State.{Place, Turned, new_core}
+use Rattle.ncc_driver.specs.State.{SessionState, Turned, new_core}
 use Rattle.ncc_driver.specs.Attempts.{loses, finishes, sleeps, drops_table, is_spent}
 use Rattle.ncc_driver.specs.Session.{Listening, Standing, State, Ran, Moved, Begun, items_of, listening, same, on_place, or_more, heard}
 use Rattle.ncc_driver.specs.Session.{new_state, ahead, on_input, on, begins, told_all, works_all, session}
@@ -49,7 +49,7 @@ alike_back : (s t : State) → Alike s t → Alike t s
 alike_back s t h = record {
   place = sym h.place;
   link = link_at t.place.core.stage t s (λ e.
-      let k = link_of s.place.core.stage s t h.link (ap (λ (p : Place). is_asking p.core.stage) h.place ∙ e) in (sym k.0, sym k.1));
+      let k = link_of s.place.core.stage s t h.link (ap (λ (p : SessionState). is_asking p.core.stage) h.place ∙ e) in (sym k.0, sym k.1));
 }
 
 alike_then : (s t u : State) → Alike s t → Alike t u → Alike s u
@@ -57,7 +57,7 @@ alike_then s t u h k = record {
   place = h.place ∙ k.place;
   link = link_at s.place.core.stage s u (λ e.
       let x = link_of s.place.core.stage s t h.link e in
-      let y = link_of t.place.core.stage t u k.link (sym (ap (λ (p : Place). is_asking p.core.stage) h.place) ∙ e) in
+      let y = link_of t.place.core.stage t u k.link (sym (ap (λ (p : SessionState). is_asking p.core.stage) h.place) ∙ e) in
       (x.0 ∙ y.0, x.1 ∙ y.1));
 }
 
@@ -88,7 +88,7 @@ ahead_alike xs ys r u e h = record {
 
 -- ---- what stands alike acts alike
 
-abbrev at : Place → List ℕ → ℕ → State
+abbrev at : SessionState → List ℕ → ℕ → State
 at p came taken = record { place = p; came = came; taken = taken }
 
 record Acts (r u : Ran) : Type 0 where
@@ -98,22 +98,22 @@ record Acts (r u : Ran) : Type 0 where
 acts_same : (r u : Ran) → r ≡ u → Acts r u
 acts_same r u e = subst (λ (x : Ran). Acts r x) e (record { state = alike_same r.state; actions = refl })
 
-turn_alike : (p : Place) (linked : Bool) (c d : List ℕ) (m n : ℕ) (t : Turned) → Makes p linked t → is_asking p.core.stage ≡ false
+turn_alike : (p : SessionState) (linked : Bool) (c d : List ℕ) (m n : ℕ) (t : Turned) → Makes p linked t → is_asking p.core.stage ≡ false
     → Acts (on_place (at p c m) t) (on_place (at p d n) t)
 turn_alike p linked c d m n t h f = record {
   state = record { place = refl; link = link_at t.place.core.stage _ _ (λ e. absurd (not_both _ (h.asking e) f)) };
   actions = refl;
 }
 
-retry_stage : (p : Place) (now : ℕ) (reason : Last) (spent : Bool)
+retry_stage : (p : SessionState) (now : ℕ) (reason : Last) (spent : Bool)
     → is_asking (if spent then finishes p (Err (e.RetriesSpent p.core.attempts reason)) else sleeps p now).place.core.stage ≡ false
 retry_stage p now reason true = refl
 retry_stage p now reason false = refl
 
-lost_stage : (p : Place) (now : ℕ) → is_asking (loses p now).place.core.stage ≡ false
+lost_stage : (p : SessionState) (now : ℕ) → is_asking (loses p now).place.core.stage ≡ false
 lost_stage p now = retry_stage (drops_table p) now last.LinkLost (is_spent now p.core.began)
 
-act_by : (config : SessionConfig) (job : Job) (now : ℕ) (p : Place) (c d : List ℕ) (m n : ℕ) (st : Stage) (input : Input)
+act_by : (config : SessionConfig) (job : Job) (now : ℕ) (p : SessionState) (c d : List ℕ) (m n : ℕ) (st : Stage) (input : Input)
     → p.core.stage ≡ st → SameLink p.core.stage (at p c m) (at p d n)
     → Acts (on_input config job now (at p c m) st input) (on_input config job now (at p d n) st input)
 act_by config job now p c d m n stage.Begun i.Start e k = turn_alike p false c d m n _
@@ -128,15 +128,15 @@ act_by config job now p c d m n (stage.Awaits asked) input e k =
     ∙ ap (λ (x : ℕ). on_input config job now (at p d x) (stage.Awaits asked) input) l.1)
 act_by config job now p c d m n _ input e k = record { state = record { place = refl; link = k }; actions = refl }
 
-act_at : (config : SessionConfig) (job : Job) (now : ℕ) (p : Place) (c d : List ℕ) (m n : ℕ) (input : Input)
+act_at : (config : SessionConfig) (job : Job) (now : ℕ) (p : SessionState) (c d : List ℕ) (m n : ℕ) (input : Input)
     → SameLink p.core.stage (at p c m) (at p d n) → Acts (on config job now (at p c m) input) (on config job now (at p d n) input)
 unfolding on
 act_at config job now p c d m n input k = act_by config job now p c d m n p.core.stage input refl k
 
-act_on : (config : SessionConfig) (job : Job) (now : ℕ) (s t : State) (input : Input) (q : Place) → s.place ≡ q
+act_on : (config : SessionConfig) (job : Job) (now : ℕ) (s t : State) (input : Input) (q : SessionState) → s.place ≡ q
     → SameLink s.place.core.stage s (at q t.came t.taken) → Acts (on config job now s input) (on config job now (at q t.came t.taken) input)
 act_on config job now s t input q e = subst
-    (λ (x : Place). SameLink s.place.core.stage s (at x t.came t.taken)
+    (λ (x : SessionState). SameLink s.place.core.stage s (at x t.came t.taken)
     → Acts (on config job now s input) (on config job now (at x t.came t.taken) input))
     e (λ k. act_at config job now s.place s.came t.came s.taken t.taken input k)
 
@@ -159,7 +159,7 @@ told_alike config job s t (x ∷ xs) h =
 
 begins_alike : (now : ℕ) (s t : State) → Alike s t → Alike (begins now s) (begins now t)
 unfolding begins
-begins_alike now s t h = record { place = ap (λ (p : Place). (begins now (at p [] 0)).place) h.place; link = tt }
+begins_alike now s t h = record { place = ap (λ (p : SessionState). (begins now (at p [] 0)).place) h.place; link = tt }
 
 works_alike : (config : SessionConfig) (s t : State) (works : List Begun) → Alike s t
     → AlikeRan (works_all config s works) (works_all config t works)

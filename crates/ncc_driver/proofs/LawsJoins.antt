@@ -30,7 +30,7 @@ use Rattle.ncc_driver.specs.declared.work.WorkStep.{WorkStep}
 use Rattle.ncc_driver.specs.declared.work.WorkStep.TheVariants as w
 use Rattle.ncc_driver.specs.Work.{Job}
 use Rattle.ncc_driver.specs.Requests.{closes}
-use Rattle.ncc_driver.specs.State.{Place, Turned}
+use Rattle.ncc_driver.specs.State.{SessionState, Turned}
 use Rattle.ncc_driver.specs.Attempts.{before, at_core, finishes, refuses, retries, sleeps, is_spent, drops_table, fails_by}
 use Rattle.ncc_driver.specs.Attempts.{is_transient, is_no_leader, joins, joins_server, joins_by, joins_router, router_of, one_more, role_of}
 use Rattle.ncc_driver.specs.Attempts.{drawn, addresses_in, opened, attempts, is_fresh, takes_step, follows_hello, follows, keeps_table}
@@ -87,7 +87,7 @@ one_place (x ∷ front) (y ∷ ys) address to back e n =
 -- ---- what actions open
 
 -- No link is opened, and a link is waited for only where it was; or one is opened at the end, where none is there.
-abbrev Opens : Stage → Bool → Place → List Action → Type 0
+abbrev Opens : Stage → Bool → SessionState → List Action → Type 0
 Opens st linked q xs =
     (IsTrue (opens_none xs) × ((leg : Leg) → q.core.stage ≡ stage.Joins leg → st ≡ stage.Joins leg))
     ⊎ ((ys : List Action) × (address : List ℕ) × (leg : Leg) × (xs ≡ ys ++ Connect address ∷ []) × IsTrue (opens_none ys)
@@ -96,12 +96,12 @@ Opens st linked q xs =
 abbrev OpensBy : Stage → Bool → Turned → Type 0
 OpensBy st linked t = Opens st linked t.place t.actions
 
-retried_by : (st : Stage) (linked : Bool) (p : Place) (now : ℕ) (reason : Last) (spent : Bool)
+retried_by : (st : Stage) (linked : Bool) (p : SessionState) (now : ℕ) (reason : Last) (spent : Bool)
     → OpensBy st linked (if spent then finishes p (Err (e.RetriesSpent p.core.attempts reason)) else sleeps p now)
 retried_by st linked p now reason true = inl (refl, λ leg e. absurd (cc))
 retried_by st linked p now reason false = inl (refl, λ leg e. absurd (cc))
 
-retried : (st : Stage) (linked : Bool) (p : Place) (now : ℕ) (reason : Last) → OpensBy st linked (retries p now reason)
+retried : (st : Stage) (linked : Bool) (p : SessionState) (now : ℕ) (reason : Last) → OpensBy st linked (retries p now reason)
 retried st linked p now reason = retried_by st linked p now reason (is_spent now p.core.began)
 
 closed : (st : Stage) (t : Turned) → OpensBy st false t → OpensBy st true (before closes t)
@@ -109,46 +109,46 @@ closed st t (inl (n, k)) = inl (n, k)
 closed st t (inr (ys, address, leg, is, n, l, at)) =
     inr (closes ++ ys, address, leg, ap (λ (x : List Action). closes ++ x) is, n, l, at)
 
-fell_by : (st : Stage) (p : Place) (now : ℕ) (code : List ℕ) (again leaderless : Bool)
+fell_by : (st : Stage) (p : SessionState) (now : ℕ) (code : List ℕ) (again leaderless : Bool)
     → OpensBy st false (if again then retries p now (last.Code code) else if leaderless then retries (drops_table p) now (last.Code code)
     else refuses p code)
 fell_by st p now code true leaderless = retried st false p now (last.Code code)
 fell_by st p now code false true = retried st false (drops_table p) now (last.Code code)
 fell_by st p now code false false = inl (refl, λ leg e. absurd (cc))
 
-joined : (st : Stage) (p : Place) (now : ℕ) (role : Role) (core : Core) (found : Option Value)
+joined : (st : Stage) (p : SessionState) (now : ℕ) (role : Role) (core : Core) (found : Option Value)
     → OpensBy st false (joins p now role core found)
 joined st p now role core (Some (v.Text address)) = inr ([], address, Working, refl, refl, refl, refl)
 joined st p now role core _ = retried st false (drops_table (at_core p core)) now (last.NoServer role)
 
-joined_server : (st : Stage) (writes : Bool) (p : Place) (now : ℕ) → OpensBy st false (joins_server writes p now)
+joined_server : (st : Stage) (writes : Bool) (p : SessionState) (now : ℕ) → OpensBy st false (joins_server writes p now)
 joined_server st writes p now =
     joined st p now (role_of writes) (drawn p.core) (picked (pcg32 p.core.words).0 (addresses_in (role_of writes) p.core.table))
 
-joined_by : (st : Stage) (p : Place) (core : Core) (found : Option Value) → core.stage ≡ st → OpensBy st false (joins_by p core found)
+joined_by : (st : Stage) (p : SessionState) (core : Core) (found : Option Value) → core.stage ≡ st → OpensBy st false (joins_by p core found)
 joined_by st p core (Some (v.Text address)) s = inr ([], address, Routing, refl, refl, refl, refl)
 joined_by st p core _ s = inl (refl, λ leg e. sym s ∙ e)
 
-attempted_by : (config : SessionConfig) (st : Stage) (writes : Bool) (p : Place) (now : ℕ) (fresh : Bool) → p.core.stage ≡ st
+attempted_by : (config : SessionConfig) (st : Stage) (writes : Bool) (p : SessionState) (now : ℕ) (fresh : Bool) → p.core.stage ≡ st
     → OpensBy st false (if fresh then joins_server writes (opened p) now else joins_router config (opened p))
 attempted_by config st writes p now true s = joined_server st writes (opened p) now
 attempted_by config st writes p now false s =
     let q = opened p in
     joined_by st q (record q.core { connects = one_more q.core.connects }) (router_of config q.core) s
 
-attempted : (config : SessionConfig) (st : Stage) (writes : Bool) (p : Place) (now : ℕ) → p.core.stage ≡ st
+attempted : (config : SessionConfig) (st : Stage) (writes : Bool) (p : SessionState) (now : ℕ) → p.core.stage ≡ st
     → OpensBy st false (attempts config writes p now)
 attempted config st writes p now s = attempted_by config st writes p now (is_fresh now p.core.table) s
 
-stepped : (st : Stage) (p : Place) (step : WorkStep) → OpensBy st true (takes_step p step)
+stepped : (st : Stage) (p : SessionState) (step : WorkStep) → OpensBy st true (takes_step p step)
 stepped st p (w.Run query params) = inl (refl, λ leg e. absurd (cc))
 stepped st p w.Commit = inl (refl, λ leg e. absurd (cc))
 
-greeted : (st : Stage) (writes : Bool) (p : Place) (leg : Leg) → OpensBy st true (follows_hello writes p leg)
+greeted : (st : Stage) (writes : Bool) (p : SessionState) (leg : Leg) → OpensBy st true (follows_hello writes p leg)
 greeted st writes p Routing = inl (refl, λ leg e. absurd (cc))
 greeted st writes p Working = inl (refl, λ leg e. absurd (cc))
 
-followed : (config : SessionConfig) (job : Job) (st : Stage) (p : Place) (asked : Asked) → p.core.stage ≡ st
+followed : (config : SessionConfig) (job : Job) (st : Stage) (p : SessionState) (asked : Asked) → p.core.stage ≡ st
     → OpensBy st true (follows config job p asked)
 followed config job st p (a.Shake leg) s = inl (refl, λ leg e. absurd (cc))
 followed config job st p (a.Hello leg) s = greeted st job.writes p leg
@@ -159,7 +159,7 @@ followed config job st p a.Pull s =
 followed config job st p a.Route s = inl (refl, λ leg e. sym s ∙ e)
 followed config job st p a.Commit s = inl (refl, λ leg e. sym s ∙ e)
 
-answer_opens : (config : SessionConfig) (job : Job) (now : ℕ) (st : Stage) (p : Place) (asked : Asked) (number : ℕ) (told : Told)
+answer_opens : (config : SessionConfig) (job : Job) (now : ℕ) (st : Stage) (p : SessionState) (asked : Asked) (number : ℕ) (told : Told)
     → p.core.stage ≡ st → OpensBy st true (behind config job now p asked number told)
 answer_opens config job now st p asked number says.Done s = followed config job st p asked s
 answer_opens config job now st p asked number (says.Row fields) s = inl (refl, λ leg e. sym s ∙ e)
@@ -176,7 +176,7 @@ joins_asks : (st : Stage) (leg : Leg) → st ≡ stage.Joins leg → is_asking s
 joins_asks st leg e f = let g : is_asking (stage.Joins leg) ≡ true = subst (λ (x : Stage). is_asking x ≡ true) e f in absurd (cc)
 
 -- more is done where nothing was opened and an answer is awaited still
-more_opens : (st mid : Stage) (p q : Place) (xs ys : List Action) → p.core.stage ≡ mid → is_asking mid ≡ true
+more_opens : (st mid : Stage) (p q : SessionState) (xs ys : List Action) → p.core.stage ≡ mid → is_asking mid ≡ true
     → linked_by true xs ≡ true → Opens st true p xs → Opens mid true q ys → Opens st true q (xs ++ ys)
 more_opens st mid p q xs ys m f l (inr (zs, address, leg, is, n, k, at)) h = absurd (joins_asks mid leg (sym m ∙ at) f)
 more_opens st mid p q xs ys m f l (inl (n, k)) (inl (n', k')) =
@@ -224,7 +224,7 @@ module _ (config : SessionConfig) (job : Job) (now : ℕ) where
       (answer_opens config job now l.place.core.stage l.place asked _ told refl) ih)
       (λ l item items f e. inl (refl, λ leg g. g))
 
-  more_or : (st : Stage) (q : Place) (actions : List Action) → Opens st true q actions → Opens st true q (or_more actions)
+  more_or : (st : Stage) (q : SessionState) (actions : List Action) → Opens st true q actions → Opens st true q (or_more actions)
   more_or st q [] (inl (n, k)) = inl (refl, k)
   more_or st q [] (inr (ys, address, leg, is, n, l, at)) = absurd (not_nothing ys (Connect address) [] (sym is))
   more_or st q (action ∷ actions) h = h
@@ -259,12 +259,12 @@ module _ (config : SessionConfig) (job : Job) (now : ℕ) where
   unfolding on
   opens s input = input_opens s s.place.core.stage input refl
 
-abbrev IsLast : Bool → Place → List Action → Type 0
+abbrev IsLast : Bool → SessionState → List Action → Type 0
 IsLast linked q xs =
     (front : List Action) (address : List ℕ) (back : List Action) → xs ≡ front ++ Connect address ∷ back
     → (back ≡ []) × ((leg : Leg) × (q.core.stage ≡ stage.Joins leg)) × (linked_by linked front ≡ false)
 
-last_by : (st : Stage) (linked : Bool) (q : Place) (xs : List Action) → Opens st linked q xs → IsLast linked q xs
+last_by : (st : Stage) (linked : Bool) (q : SessionState) (xs : List Action) → Opens st linked q xs → IsLast linked q xs
 last_by st linked q xs (inl (n, k)) front address back e =
     absurd (has_one front address back (subst (λ (x : List Action). IsTrue (opens_none x)) e n))
 last_by st linked q xs (inr (ys, to, leg, is, n, l, at)) front address back e =
@@ -277,7 +277,7 @@ connects_last config job now s input front address back e =
     last_by s.place.core.stage (unless_lost input (is_awaited s.place.core.stage i.Lost)) r.state.place r.actions
     (opens config job now s input) front address back e
 
-waits_by : (st : Stage) (linked : Bool) (q : Place) (xs : List Action) (leg : Leg) → Opens st linked q xs
+waits_by : (st : Stage) (linked : Bool) (q : SessionState) (xs : List Action) (leg : Leg) → Opens st linked q xs
     → q.core.stage ≡ stage.Joins leg
     → ((front : List Action) × (address : List ℕ) × (xs ≡ front ++ Connect address ∷ [])) ⊎ (st ≡ stage.Joins leg)
 waits_by st linked q xs leg (inl (n, k)) e = inr (k leg e)
@@ -306,22 +306,22 @@ has_success (Receive ∷ front) done back h = has_success front done back h
 has_success (Finish (Ok other) ∷ front) done back h = absurd (cc)
 has_success (Finish (Err error) ∷ front) done back h = has_success front done back h
 
-fails_retry : (p : Place) (now : ℕ) (reason : Last) (spent : Bool)
+fails_retry : (p : SessionState) (now : ℕ) (reason : Last) (spent : Bool)
     → no_success (if spent then finishes p (Err (e.RetriesSpent p.core.attempts reason)) else sleeps p now).actions ≡ true
 fails_retry p now reason true = refl
 fails_retry p now reason false = refl
 
-fails_joins : (p : Place) (now : ℕ) (role : Role) (core : Core) (found : Option Value)
+fails_joins : (p : SessionState) (now : ℕ) (role : Role) (core : Core) (found : Option Value)
     → no_success (joins p now role core found).actions ≡ true
 fails_joins p now role core (Some (v.Text address)) = refl
 fails_joins p now role core _ =
     let q = drops_table (at_core p core) in fails_retry q now (last.NoServer role) (is_spent now q.core.began)
 
-fails_router : (p : Place) (core : Core) (found : Option Value) → no_success (joins_by p core found).actions ≡ true
+fails_router : (p : SessionState) (core : Core) (found : Option Value) → no_success (joins_by p core found).actions ≡ true
 fails_router p core (Some (v.Text address)) = refl
 fails_router p core _ = refl
 
-fails_attempt : (config : SessionConfig) (writes : Bool) (p : Place) (now : ℕ) (fresh : Bool)
+fails_attempt : (config : SessionConfig) (writes : Bool) (p : SessionState) (now : ℕ) (fresh : Bool)
     → no_success (if fresh then joins_server writes (opened p) now else joins_router config (opened p)).actions ≡ true
 fails_attempt config writes p now true =
     let q = opened p in

@@ -34,7 +34,7 @@ use Rattle.ncc_driver.specs.declared.work.WorkStep.{WorkStep}
 use Rattle.ncc_driver.specs.declared.work.WorkStep.TheVariants as w
 use Rattle.ncc_driver.specs.Work.{Row, Job}
 use Rattle.ncc_driver.specs.Requests.{closes, shakes, shake_bytes}
-use Rattle.ncc_driver.specs.State.{Place, Turned}
+use Rattle.ncc_driver.specs.State.{SessionState, Turned}
 use Rattle.ncc_driver.specs.Attempts.{goes, before, done_of, at_core, awaits, finishes, refuses, retries, sleeps, is_spent}
 use Rattle.ncc_driver.specs.Attempts.{drops_table}
 use Rattle.ncc_driver.specs.Attempts.{fails, fails_by, is_transient, is_no_leader, joins, joins_server, joins_by, joins_router}
@@ -102,46 +102,46 @@ module _ (most : ℕ) where
   abbrev Lowers : ℕ → Turned → Type 0
   Lowers k t = messages_in t.actions + left_of most t.place ≤ k
 
-  abbrev ran : Place → ℕ
+  abbrev ran : SessionState → ℕ
   ran p = length (so_far p.told)
 
   -- ---- ends
 
-  retried_by : (k : ℕ) (p : Place) (now : ℕ) (reason : Last) (spent : Bool)
+  retried_by : (k : ℕ) (p : SessionState) (now : ℕ) (reason : Last) (spent : Bool)
       → Lowers k (if spent then finishes p (Err (e.RetriesSpent p.core.attempts reason)) else sleeps p now)
   retried_by k p now reason true = nothing k
   retried_by k p now reason false = nothing k
 
-  retried : (k : ℕ) (p : Place) (now : ℕ) (reason : Last) → Lowers k (retries p now reason)
+  retried : (k : ℕ) (p : SessionState) (now : ℕ) (reason : Last) → Lowers k (retries p now reason)
   retried k p now reason = retried_by k p now reason (is_spent now p.core.began)
 
   closed : (k : ℕ) (t : Turned) → Lowers k t → Lowers k (before closes t)
   closed k t h = subst (λ (m : ℕ). m + left_of most t.place ≤ k) (sym (none_of_closes t.actions)) h
 
-  fell_by : (k : ℕ) (p : Place) (now : ℕ) (code : List ℕ) (again leaderless : Bool)
+  fell_by : (k : ℕ) (p : SessionState) (now : ℕ) (code : List ℕ) (again leaderless : Bool)
       → Lowers k (if again then retries p now (last.Code code) else if leaderless then retries (drops_table p) now (last.Code code)
       else refuses p code)
   fell_by k p now code true leaderless = retried k p now (last.Code code)
   fell_by k p now code false true = retried k (drops_table p) now (last.Code code)
   fell_by k p now code false false = nothing k
 
-  fell : (k : ℕ) (p : Place) (now : ℕ) (code : List ℕ) → Lowers k (fails p now code)
+  fell : (k : ℕ) (p : SessionState) (now : ℕ) (code : List ℕ) → Lowers k (fails p now code)
   fell k p now code = closed k (fails_by p now code) (fell_by k p now code (is_transient code) (is_no_leader code))
 
   -- ---- who is connected to
 
-  joined : (k : ℕ) (p : Place) (now : ℕ) (role : Role) (core : Core) (found : Option Value) → steps_left most 0 + 3 ≤ k
+  joined : (k : ℕ) (p : SessionState) (now : ℕ) (role : Role) (core : Core) (found : Option Value) → steps_left most 0 + 3 ≤ k
       → Lowers k (joins p now role core found)
   joined k p now role core (Some (v.Text address)) h = none_le (steps_left most 0 + 3) k h
   joined k p now role core _ h = retried k (drops_table (at_core p core)) now (last.NoServer role)
 
-  joined_server : (k : ℕ) (writes : Bool) (p : Place) (now : ℕ) → steps_left most 0 + 3 ≤ k → Lowers k (joins_server writes p now)
+  joined_server : (k : ℕ) (writes : Bool) (p : SessionState) (now : ℕ) → steps_left most 0 + 3 ≤ k → Lowers k (joins_server writes p now)
   joined_server k writes p now h =
       joined k p now (role_of writes) (drawn p.core) (picked (pcg32 p.core.words).0 (addresses_in (role_of writes) p.core.table)) h
 
   -- ---- what follows an answer
 
-  asked_for : (k : ℕ) (q : Place) (asked : Asked) (bytes : List ℕ) → suc (left_awaiting most asked (ran q)) ≤ k
+  asked_for : (k : ℕ) (q : SessionState) (asked : Asked) (bytes : List ℕ) → suc (left_awaiting most asked (ran q)) ≤ k
       → Lowers k (awaits q asked (Send bytes ∷ Receive ∷ []))
   asked_for k q asked bytes h =
       one_and _ (left_awaiting most asked (ran q)) k (one_if (bytes_eq bytes (wire r.Goodbye))) h
@@ -155,7 +155,7 @@ module _ (most : ℕ) where
     before_last rows query params true e f = absurd (no_run query params (sym (few rows (grind arith)) ∙ e))
     before_last rows query params false e f = grind arith
 
-    stepped : (p : Place) (rows : List (List Row)) (step : WorkStep) → job.steps rows ≡ step
+    stepped : (p : SessionState) (rows : List (List Row)) (step : WorkStep) → job.steps rows ≡ step
         → Lowers (steps_left most (length rows)) (takes_step (record { core = p.core; told = Some rows }) step)
     stepped p rows (w.Run query params) e =
         let l = before_last rows query params (nat_le most (length rows)) e refl in
@@ -163,13 +163,13 @@ module _ (most : ℕ) where
     stepped p rows w.Commit e =
         asked_for (steps_left most (length rows)) (record { core = p.core; told = Some rows }) a.Commit _ (omega arith)
 
-    went_on : (p : Place) → Lowers (steps_left most (ran p + 1)) (steps_on job p (so_far p.told ++ p.core.rows ∷ []))
+    went_on : (p : SessionState) → Lowers (steps_left most (ran p + 1)) (steps_on job p (so_far p.told ++ p.core.rows ∷ []))
     went_on p =
         let rows = so_far p.told ++ p.core.rows ∷ [] in
         subst (λ (n : ℕ). Lowers (steps_left most n) (steps_on job p rows)) (length-append (so_far p.told) (p.core.rows ∷ []))
         (stepped p rows (job.steps rows) refl)
 
-    stays : (p q : Place) (asked : Asked) → q.core.stage ≡ stage.Awaits asked → q.told ≡ p.told
+    stays : (p q : SessionState) (asked : Asked) → q.core.stage ≡ stage.Awaits asked → q.told ≡ p.told
         → Lowers (left_awaiting most asked (ran p)) (goes q [])
     stays p q asked e f =
         let same : left_of most q ≡ left_awaiting most asked (ran p) =
@@ -178,7 +178,7 @@ module _ (most : ℕ) where
         none_le (left_of most q) (left_awaiting most asked (ran p))
         (subst (λ (n : ℕ). n ≤ left_awaiting most asked (ran p)) (sym same) (same_le (left_awaiting most asked (ran p))))
 
-    followed : (p : Place) (asked : Asked) → p.core.stage ≡ stage.Awaits asked
+    followed : (p : SessionState) (asked : Asked) → p.core.stage ≡ stage.Awaits asked
         → Lowers (left_awaiting most asked (ran p)) (follows config job p asked)
     followed p (a.Shake Routing) e = asked_for _ p (a.Hello Routing) _ (omega arith)
     followed p (a.Shake Working) e = asked_for _ p (a.Hello Working) _ (omega arith)
@@ -190,7 +190,7 @@ module _ (most : ℕ) where
     followed p a.Route e = stays p p a.Route e refl
     followed p a.Commit e = stays p p a.Commit e refl
 
-    routed : (p : Place) (now : ℕ) (asked : Asked) (table : Table) → asked ≡ a.Route
+    routed : (p : SessionState) (now : ℕ) (asked : Asked) (table : Table) → asked ≡ a.Route
         → Lowers (left_awaiting most asked (ran p)) (before closes (joins_server job.writes (keeps_table p table) now))
     routed p now asked table e =
         subst (λ (x : Asked). Lowers (left_awaiting most x (ran p)) (before closes (joins_server job.writes (keeps_table p table) now)))
@@ -198,7 +198,7 @@ module _ (most : ℕ) where
         (closed (steps_left most 0 + 3) (joins_server job.writes (keeps_table p table) now)
         (joined_server (steps_left most 0 + 3) job.writes (keeps_table p table) now (same_le (steps_left most 0 + 3))))
 
-    answer_lowers : (now : ℕ) (p : Place) (asked : Asked) (number : ℕ) (told : Told) → p.core.stage ≡ stage.Awaits asked
+    answer_lowers : (now : ℕ) (p : SessionState) (asked : Asked) (number : ℕ) (told : Told) → p.core.stage ≡ stage.Awaits asked
         → Own p.core.rows asked told → Lowers (left_awaiting most asked (ran p)) (behind config job now p asked number told)
     answer_lowers now p asked number says.Done e o = followed p asked e
     answer_lowers now p asked number (says.Row fields) e o =
@@ -214,7 +214,7 @@ module _ (most : ℕ) where
     abbrev Heard : Listening → List Item → Standing → Type 0
     Heard l items r = messages_in r.written + left_of most r.core.place ≤ left_of most l.place
 
-    left_is : (p : Place) (st : Stage) → p.core.stage ≡ st → left_at most st (ran p) ≡ left_of most p
+    left_is : (p : SessionState) (st : Stage) → p.core.stage ≡ st → left_at most st (ran p) ≡ left_of most p
     left_is p st e = ap (λ (x : Stage). left_at most x (ran p)) (sym e)
 
     heard : (now : ℕ) (l : Listening) (items : List Item) → Heard l items (hear config job now l items)
@@ -284,22 +284,22 @@ left_at_most most place = at_most most (length (so_far place.told)) place.core.s
 
 -- ---- what begins an attempt
 
-silent_retry : (p : Place) (now : ℕ) (reason : Last) (spent : Bool)
+silent_retry : (p : SessionState) (now : ℕ) (reason : Last) (spent : Bool)
     → messages_in (if spent then finishes p (Err (e.RetriesSpent p.core.attempts reason)) else sleeps p now).actions ≡ 0
 silent_retry p now reason true = refl
 silent_retry p now reason false = refl
 
-silent_joins : (p : Place) (now : ℕ) (role : Role) (core : Core) (found : Option Value)
+silent_joins : (p : SessionState) (now : ℕ) (role : Role) (core : Core) (found : Option Value)
     → messages_in (joins p now role core found).actions ≡ 0
 silent_joins p now role core (Some (v.Text address)) = refl
 silent_joins p now role core _ =
     let q = drops_table (at_core p core) in silent_retry q now (last.NoServer role) (is_spent now q.core.began)
 
-silent_router : (p : Place) (core : Core) (found : Option Value) → messages_in (joins_by p core found).actions ≡ 0
+silent_router : (p : SessionState) (core : Core) (found : Option Value) → messages_in (joins_by p core found).actions ≡ 0
 silent_router p core (Some (v.Text address)) = refl
 silent_router p core _ = refl
 
-silent_by : (config : SessionConfig) (writes : Bool) (p : Place) (now : ℕ) (fresh : Bool)
+silent_by : (config : SessionConfig) (writes : Bool) (p : SessionState) (now : ℕ) (fresh : Bool)
     → messages_in (if fresh then joins_server writes (opened p) now else joins_router config (opened p)).actions ≡ 0
 silent_by config writes p now true =
     let q = opened p in

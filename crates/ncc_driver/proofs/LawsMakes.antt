@@ -12,7 +12,7 @@ use Rattle.ncc_driver.specs.declared.action.Action.TheVariants.{Connect, Close, 
 use Rattle.ncc_driver.specs.declared.action.Input.{Input}
 use Rattle.ncc_driver.specs.declared.action.Input.TheVariants as i
 use Rattle.ncc_driver.specs.Work.{Job}
-use Rattle.ncc_driver.specs.State.{Place, Turned}
+use Rattle.ncc_driver.specs.State.{SessionState, Turned}
 use Rattle.ncc_driver.specs.Session.{Listening, Standing, State, Ran, answered, told_by, listening, items_of, or_more, hears}
 use Rattle.ncc_driver.specs.Session.{on_input, on}
 use Rattle.std.proofs.lemmas.List.Elements.{filter-append}
@@ -43,7 +43,7 @@ linked_on linked (_ ∷ xs) ys = linked_on linked xs ys
 abbrev pub then_turned : Turned → Turned → Turned
 then_turned t u = record { place = u.place; actions = t.actions ++ u.actions }
 
-pub makes_on : (p : Place) (linked : Bool) (t u : Turned) → Makes p linked t → Makes t.place (linked_by linked t.actions) u
+pub makes_on : (p : SessionState) (linked : Bool) (t u : Turned) → Makes p linked t → Makes t.place (linked_by linked t.actions) u
     → Makes p linked (then_turned t u)
 makes_on p linked t u h k = record {
   bookmarks = k.bookmarks ∙ ap (λ (g : List Value). presented g u.actions) h.bookmarks
@@ -109,19 +109,19 @@ module _ (config : SessionConfig) (job : Job) (now : ℕ) where
 -- ---- what is told
 
 -- what an input makes of a session
-pub record MakesOf (p : Place) (linked : Bool) (q : Place) (actions : List Action) : Type 0 where
+pub record MakesOf (p : SessionState) (linked : Bool) (q : SessionState) (actions : List Action) : Type 0 where
   pub bookmarks : q.core.bookmarks ≡ presented p.core.bookmarks actions
   pub presents : Presents p.core.bookmarks actions
   pub began : q.core.began ≡ p.core.began
   pub link : has_link q.core.stage ≡ linked_by linked actions
 
-pub of_turn : (p : Place) (linked : Bool) (t : Turned) → Makes p linked t → MakesOf p linked t.place t.actions
+pub of_turn : (p : SessionState) (linked : Bool) (t : Turned) → Makes p linked t → MakesOf p linked t.place t.actions
 of_turn p linked t h = record { bookmarks = h.bookmarks; presents = h.presents; began = h.began; link = h.link }
 
 no_receive : (given : List Value) → IsPresented given Receive
 no_receive given extra e = absurd (cc)
 
-more_or : (p : Place) (linked : Bool) (q : Place) (actions : List Action) → MakesOf p linked q actions
+more_or : (p : SessionState) (linked : Bool) (q : SessionState) (actions : List Action) → MakesOf p linked q actions
     → MakesOf p linked q (or_more actions)
 more_or p linked q [] h = record { bookmarks = h.bookmarks; presents = (no_receive p.core.bookmarks, tt); began = h.began; link = h.link }
 more_or p linked q (action ∷ actions) h = h

@@ -10,7 +10,7 @@ use Rattle.ncc_driver.specs.declared.standing.Stage.TheVariants as stage
 use Rattle.ncc_driver.specs.declared.link.Item.{Item}
 use Rattle.ncc_driver.specs.declared.action.Input.{Input}
 use Rattle.ncc_driver.specs.declared.action.Input.TheVariants as i
-use Rattle.ncc_driver.specs.State.{Place, new_core}
+use Rattle.ncc_driver.specs.State.{SessionState, new_core}
 use Rattle.ncc_driver.specs.Session.{Listening, Standing, State, Moved, Begun, items_of, told_by, listening, answered}
 use Rattle.ncc_driver.specs.Session.{new_state, on_input, on, begins, told_all}
 use Rattle.ncc_driver.specs.LawsEnds.{Met, starts, joins, breaks, Moment, moment, turns_by, hears_item, heard_in, met_by}
@@ -31,12 +31,12 @@ sane_on [] ys g h = h
 sane_on (x ∷ xs) ys g h = (g.0, sane_on xs ys g.1 h)
 
 -- a place in a work that was begun then
-record Within (began : ℕ) (p : Place) : Type 0 where
+record Within (began : ℕ) (p : SessionState) : Type 0 where
   since : p.core.began ≡ began
   texts : HasTexts p.core.table
 
 -- what one turn of a work leads to
-turned_within : (config : SessionConfig) (work : Begun) (now : ℕ) (p : Place) (met : Met) → Within work.began p
+turned_within : (config : SessionConfig) (work : Begun) (now : ℕ) (p : SessionState) (met : Met) → Within work.began p
     → (turns_by config work.job now p met).place.core.began ≡ p.core.began
     → Within work.began (turns_by config work.job now p met).place
 turned_within config work now p met w b = record { since = b ∙ w.since; texts = turn_keeps config work.job now p met w.texts }
@@ -83,7 +83,7 @@ record SaneOn (config : SessionConfig) (work : Begun) (now : ℕ) (s : State) (s
   sane : AllSane (met_by config work now s st input)
   texts : HasTexts (on_input config work.job now s st input).state.place.core.table
 
-one_sane : (config : SessionConfig) (work : Begun) (now : ℕ) (p : Place) (met : Met) → Within work.began p
+one_sane : (config : SessionConfig) (work : Begun) (now : ℕ) (p : SessionState) (met : Met) → Within work.began p
     → AllSane (moment work now p met ∷ []) × HasTexts (turns_by config work.job now p met).place.core.table
 one_sane config work now p met w = ((record { began = w.since; texts = w.texts }, tt), turn_keeps config work.job now p met w.texts)
 

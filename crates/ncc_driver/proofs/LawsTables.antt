@@ -31,7 +31,7 @@ use Rattle.ncc_driver.specs.declared.work.WorkStep.{WorkStep}
 use Rattle.ncc_driver.specs.declared.work.WorkStep.TheVariants as w
 use Rattle.ncc_driver.specs.Work.{Row, Job, rows_fit}
 use Rattle.ncc_driver.specs.Requests.{shake_answer}
-use Rattle.ncc_driver.specs.State.{Place, Turned}
+use Rattle.ncc_driver.specs.State.{SessionState, Turned}
 use Rattle.ncc_driver.specs.Answers.{value_at, text_in, list_in, if_texts, texts_in, pairs_in, pairs_by, Served, server_of}
 use Rattle.ncc_driver.specs.Answers.{server_by, server_in, one_more}
 use Rattle.ncc_driver.specs.Answers.{servers_in, addresses_of, table_of, seconds_in, servers_at, table_by_pairs, table_in, told_table}
@@ -171,53 +171,53 @@ told_good asked now rows _ = tt
 
 -- ---- what a turn keeps
 
-abbrev Keeps : Place → Turned → Type 0
+abbrev Keeps : SessionState → Turned → Type 0
 Keeps p t = HasTexts p.core.table → HasTexts t.place.core.table
 
-retry_keeps : (p : Place) (now : ℕ) (reason : Last) (spent : Bool)
+retry_keeps : (p : SessionState) (now : ℕ) (reason : Last) (spent : Bool)
     → Keeps p (if spent then finishes p (Err (error.RetriesSpent p.core.attempts reason)) else sleeps p now)
 retry_keeps p now reason true h = h
 retry_keeps p now reason false h = h
 
-retries_keep : (p : Place) (now : ℕ) (reason : Last) → Keeps p (retries p now reason)
+retries_keep : (p : SessionState) (now : ℕ) (reason : Last) → Keeps p (retries p now reason)
 retries_keep p now reason h = retry_keeps p now reason (is_spent now p.core.began) h
 
-joins_keep : (p : Place) (now : ℕ) (role : Role) (core : Core) (found : Option Value) → HasTexts core.table
+joins_keep : (p : SessionState) (now : ℕ) (role : Role) (core : Core) (found : Option Value) → HasTexts core.table
     → HasTexts (joins p now role core found).place.core.table
 joins_keep p now role core (Some (v.Text address)) h = h
 joins_keep p now role core _ h = retries_keep (drops_table (at_core p core)) now (last.NoServer role) tt
 
-server_keeps : (writes : Bool) (p : Place) (now : ℕ) → Keeps p (joins_server writes p now)
+server_keeps : (writes : Bool) (p : SessionState) (now : ℕ) → Keeps p (joins_server writes p now)
 server_keeps writes p now h =
     let role = role_of writes in
     joins_keep p now role (drawn p.core) (picked (pcg32 p.core.words).0 (addresses_in role p.core.table)) h
 
-joins_by_keeps : (p : Place) (core : Core) (found : Option Value) → HasTexts core.table → HasTexts (joins_by p core found).place.core.table
+joins_by_keeps : (p : SessionState) (core : Core) (found : Option Value) → HasTexts core.table → HasTexts (joins_by p core found).place.core.table
 joins_by_keeps p core (Some (v.Text address)) h = h
 joins_by_keeps p core _ h = h
 
-attempt_keeps : (config : SessionConfig) (writes : Bool) (p : Place) (now : ℕ) (fresh : Bool)
+attempt_keeps : (config : SessionConfig) (writes : Bool) (p : SessionState) (now : ℕ) (fresh : Bool)
     → Keeps p (if fresh then joins_server writes (opened p) now else joins_router config (opened p))
 attempt_keeps config writes p now true h = server_keeps writes (opened p) now h
 attempt_keeps config writes p now false h = joins_by_keeps (opened p)
     (record (opened p).core { connects = step_up (opened p).core.connects }) (router_of config (opened p).core) h
 
-fell_keeps : (p : Place) (now : ℕ) (code : List ℕ) (again leaderless : Bool)
+fell_keeps : (p : SessionState) (now : ℕ) (code : List ℕ) (again leaderless : Bool)
     → Keeps p (if again then retries p now (last.Code code) else if leaderless then retries (drops_table p) now (last.Code code)
     else refuses p code)
 fell_keeps p now code true leaderless h = retries_keep p now (last.Code code) h
 fell_keeps p now code false true h = retries_keep (drops_table p) now (last.Code code) tt
 fell_keeps p now code false false h = h
 
-step_keeps : (p : Place) (step : WorkStep) → Keeps p (takes_step p step)
+step_keeps : (p : SessionState) (step : WorkStep) → Keeps p (takes_step p step)
 step_keeps p (w.Run query params) h = h
 step_keeps p w.Commit h = h
 
-hello_keeps : (writes : Bool) (p : Place) (leg : Leg) → Keeps p (follows_hello writes p leg)
+hello_keeps : (writes : Bool) (p : SessionState) (leg : Leg) → Keeps p (follows_hello writes p leg)
 hello_keeps writes p Routing h = h
 hello_keeps writes p Working h = h
 
-follow_keeps : (config : SessionConfig) (job : Job) (p : Place) (asked : Asked) → Keeps p (follows config job p asked)
+follow_keeps : (config : SessionConfig) (job : Job) (p : SessionState) (asked : Asked) → Keeps p (follows config job p asked)
 follow_keeps config job p (a.Shake leg) h = h
 follow_keeps config job p (a.Hello leg) h = hello_keeps job.writes p leg h
 follow_keeps config job p a.Begin h = step_keeps (record { core = p.core; told = Some [] }) (job.steps []) h
@@ -226,7 +226,7 @@ follow_keeps config job p a.Pull h =
     let told = so_far p.told ++ p.core.rows ∷ [] in step_keeps (record { core = p.core; told = Some told }) (job.steps told) h
 follow_keeps config job p _ h = h
 
-answer_keeps : (config : SessionConfig) (job : Job) (now : ℕ) (p : Place) (asked : Asked) (number : ℕ) (told : Told) → GoodTold asked told
+answer_keeps : (config : SessionConfig) (job : Job) (now : ℕ) (p : SessionState) (asked : Asked) (number : ℕ) (told : Told) → GoodTold asked told
     → Keeps p (behind config job now p asked number told)
 answer_keeps config job now p asked number says.Done g h = follow_keeps config job p asked h
 answer_keeps config job now p asked number (says.Row fields) g h = h
@@ -235,7 +235,7 @@ answer_keeps config job now p asked number (says.Committed bookmark) g h = h
 answer_keeps config job now p asked number (says.Failed code) g h = fell_keeps p now code (is_transient code) (is_no_leader code) h
 answer_keeps config job now p asked number says.Bad g h = h
 
-pub turn_keeps : (config : SessionConfig) (job : Job) (now : ℕ) (p : Place) (met : Met) → Keeps p (turns_by config job now p met)
+pub turn_keeps : (config : SessionConfig) (job : Job) (now : ℕ) (p : SessionState) (met : Met) → Keeps p (turns_by config job now p met)
 turn_keeps config job now p starts h = attempt_keeps config job.writes p now (is_fresh now p.core.table) h
 turn_keeps config job now p (joins_met leg) h = h
 turn_keeps config job now p (hears asked number item) h =

@@ -33,7 +33,7 @@ use Rattle.ncc_driver.specs.declared.work.WorkStep.{WorkStep}
 use Rattle.ncc_driver.specs.declared.work.WorkStep.TheVariants as w
 use Rattle.ncc_driver.specs.Work.{Row, Job}
 use Rattle.ncc_driver.specs.Requests.{sent, begin, closes, asks, shakes, hello, route, run, pull, commit}
-use Rattle.ncc_driver.specs.State.{Place, Turned}
+use Rattle.ncc_driver.specs.State.{SessionState, Turned}
 use Rattle.ncc_driver.specs.Attempts.{goes, before, at_core, awaits, finishes, succeeds, refuses, retries, sleeps, is_spent}
 use Rattle.ncc_driver.specs.Attempts.{drops_table, loses}
 use Rattle.ncc_driver.specs.Attempts.{fails, is_transient, is_no_leader, connects, joins, joins_server, joins_by, joins_router, opened}
@@ -114,14 +114,14 @@ abbrev pub is_asking : Stage → Bool
 is_asking (stage.Awaits asked) = true
 is_asking _ = false
 
-pub record Makes (p : Place) (linked : Bool) (t : Turned) : Type 0 where
+pub record Makes (p : SessionState) (linked : Bool) (t : Turned) : Type 0 where
   pub bookmarks : t.place.core.bookmarks ≡ presented p.core.bookmarks t.actions
   pub presents : Presents p.core.bookmarks t.actions
   pub began : t.place.core.began ≡ p.core.began
   pub link : has_link t.place.core.stage ≡ linked_by linked t.actions
   pub asking : is_asking t.place.core.stage ≡ true → is_asking p.core.stage ≡ true
 
-pub makes_closed : (p : Place) (linked : Bool) (t : Turned) → Makes p false t → Makes p linked (before closes t)
+pub makes_closed : (p : SessionState) (linked : Bool) (t : Turned) → Makes p false t → Makes p linked (before closes t)
 makes_closed p linked t h = record {
   bookmarks = h.bookmarks;
   presents = (other p.core.bookmarks r.Goodbye (λ e. absurd (cc)), (plain p.core.bookmarks Close refl, h.presents));
@@ -130,7 +130,7 @@ makes_closed p linked t h = record {
   asking = h.asking;
 }
 
-failed : (p : Place) (error : WorkError) → Makes p false (finishes p (Err error))
+failed : (p : SessionState) (error : WorkError) → Makes p false (finishes p (Err error))
 failed p error = record {
   bookmarks = refl;
   presents = (plain p.core.bookmarks (Finish (Err error)) refl, tt);
@@ -139,7 +139,7 @@ failed p error = record {
   asking = λ e. absurd (cc);
 }
 
-succeeded : (p : Place) (linked : Bool) (bookmark : List ℕ) → Makes p linked (succeeds p bookmark)
+succeeded : (p : SessionState) (linked : Bool) (bookmark : List ℕ) → Makes p linked (succeeds p bookmark)
 succeeded p linked bookmark = record {
   bookmarks = refl;
   presents = (
@@ -155,7 +155,7 @@ succeeded p linked bookmark = record {
   asking = λ e. absurd (cc);
 }
 
-slept : (p : Place) (now : ℕ) → Makes p false (sleeps p now)
+slept : (p : SessionState) (now : ℕ) → Makes p false (sleeps p now)
 slept p now = record {
   bookmarks = refl;
   presents = (plain p.core.bookmarks _ refl, tt);
@@ -164,16 +164,16 @@ slept p now = record {
   asking = λ e. absurd (cc);
 }
 
-retried_by : (p : Place) (now : ℕ) (reason : Last) (spent : Bool)
+retried_by : (p : SessionState) (now : ℕ) (reason : Last) (spent : Bool)
     → Makes p false (if spent then finishes p (Err (e.RetriesSpent p.core.attempts reason)) else sleeps p now)
 retried_by p now reason true = failed p (e.RetriesSpent p.core.attempts reason)
 retried_by p now reason false = slept p now
 
-retried : (p : Place) (now : ℕ) (reason : Last) → Makes p false (retries p now reason)
+retried : (p : SessionState) (now : ℕ) (reason : Last) → Makes p false (retries p now reason)
 retried p now reason = retried_by p now reason (is_spent now p.core.began)
 
 -- what a turn makes of a place, of which only what does not count was changed before
-moved : (p q : Place) (linked : Bool) (t : Turned) → q.core.bookmarks ≡ p.core.bookmarks → q.core.began ≡ p.core.began
+moved : (p q : SessionState) (linked : Bool) (t : Turned) → q.core.bookmarks ≡ p.core.bookmarks → q.core.began ≡ p.core.began
     → (is_asking q.core.stage ≡ true → is_asking p.core.stage ≡ true) → Makes q linked t → Makes p linked t
 moved p q linked t b s k h = record {
   bookmarks = h.bookmarks ∙ ap (λ (x : List Value). presented x t.actions) b;
@@ -183,22 +183,22 @@ moved p q linked t b s k h = record {
   asking = λ e. k (h.asking e);
 }
 
-pub lost : (p : Place) (now : ℕ) → Makes p false (loses p now)
+pub lost : (p : SessionState) (now : ℕ) → Makes p false (loses p now)
 lost p now = moved p (drops_table p) false _ refl refl (λ e. e) (retried (drops_table p) now last.LinkLost)
 
-fell_by : (p : Place) (now : ℕ) (code : List ℕ) (again leaderless : Bool)
+fell_by : (p : SessionState) (now : ℕ) (code : List ℕ) (again leaderless : Bool)
     → Makes p false (if again then retries p now (last.Code code) else if leaderless then retries (drops_table p) now (last.Code code)
     else refuses p code)
 fell_by p now code true leaderless = retried p now (last.Code code)
 fell_by p now code false true = moved p (drops_table p) false _ refl refl (λ e. e) (retried (drops_table p) now (last.Code code))
 fell_by p now code false false = failed p (e.Refused p.core.attempts code)
 
-fell : (p : Place) (linked : Bool) (now : ℕ) (code : List ℕ) → Makes p linked (fails p now code)
+fell : (p : SessionState) (linked : Bool) (now : ℕ) (code : List ℕ) → Makes p linked (fails p now code)
 fell p linked now code = makes_closed p linked _ (fell_by p now code (is_transient code) (is_no_leader code))
 
 -- ---- who is connected to
 
-connected : (p : Place) (core : Core) (linked : Bool) (leg : Leg) (address : List ℕ) → core.bookmarks ≡ p.core.bookmarks
+connected : (p : SessionState) (core : Core) (linked : Bool) (leg : Leg) (address : List ℕ) → core.bookmarks ≡ p.core.bookmarks
     → core.began ≡ p.core.began → Makes p linked (connects p core leg address)
 connected p core linked leg address b s = record {
   bookmarks = b;
@@ -208,36 +208,36 @@ connected p core linked leg address b s = record {
   asking = λ e. absurd (cc);
 }
 
-joined : (p : Place) (now : ℕ) (role : Role) (core : Core) (found : Option Value) → core.bookmarks ≡ p.core.bookmarks
+joined : (p : SessionState) (now : ℕ) (role : Role) (core : Core) (found : Option Value) → core.bookmarks ≡ p.core.bookmarks
     → core.began ≡ p.core.began → (is_asking core.stage ≡ true → is_asking p.core.stage ≡ true)
     → Makes p false (joins p now role core found)
 joined p now role core (Some (v.Text address)) b s k = connected p core false Working address b s
 joined p now role core _ b s k =
     let q = drops_table (at_core p core) in moved p q false _ b s k (retried q now (last.NoServer role))
 
-joined_server : (writes : Bool) (p : Place) (now : ℕ) → Makes p false (joins_server writes p now)
+joined_server : (writes : Bool) (p : SessionState) (now : ℕ) → Makes p false (joins_server writes p now)
 joined_server writes p now = joined p now _ _ _ refl refl (λ e. e)
 
-joined_by : (p : Place) (core : Core) (found : Option Value) → core.bookmarks ≡ p.core.bookmarks → core.began ≡ p.core.began
+joined_by : (p : SessionState) (core : Core) (found : Option Value) → core.bookmarks ≡ p.core.bookmarks → core.began ≡ p.core.began
     → has_link core.stage ≡ false → (is_asking core.stage ≡ true → is_asking p.core.stage ≡ true) → Makes p false (joins_by p core found)
 joined_by p core (Some (v.Text address)) b s l k = connected p core false Routing address b s
 joined_by p core _ b s l k = record { bookmarks = b; presents = tt; began = s; link = l; asking = k }
 
-joined_router : (config : SessionConfig) (p : Place) → has_link p.core.stage ≡ false → Makes p false (joins_router config p)
+joined_router : (config : SessionConfig) (p : SessionState) → has_link p.core.stage ≡ false → Makes p false (joins_router config p)
 joined_router config p l = joined_by p _ _ refl refl l (λ e. e)
 
-attempted_by : (config : SessionConfig) (writes : Bool) (p : Place) (now : ℕ) (fresh : Bool) → has_link p.core.stage ≡ false
+attempted_by : (config : SessionConfig) (writes : Bool) (p : SessionState) (now : ℕ) (fresh : Bool) → has_link p.core.stage ≡ false
     → Makes p false (if fresh then joins_server writes (opened p) now else joins_router config (opened p))
 attempted_by config writes p now true l = moved p (opened p) false _ refl refl (λ e. e) (joined_server writes (opened p) now)
 attempted_by config writes p now false l = moved p (opened p) false _ refl refl (λ e. e) (joined_router config (opened p) l)
 
-pub attempted : (config : SessionConfig) (writes : Bool) (p : Place) (now : ℕ) → has_link p.core.stage ≡ false
+pub attempted : (config : SessionConfig) (writes : Bool) (p : SessionState) (now : ℕ) → has_link p.core.stage ≡ false
     → Makes p false (attempts config writes p now)
 attempted config writes p now l = attempted_by config writes p now (is_fresh now p.core.table) l
 
 -- ---- what follows an answer
 
-asked_for : (p q : Place) (linked : Bool) (asked : Asked) (bytes : List ℕ) → q.core.bookmarks ≡ p.core.bookmarks
+asked_for : (p q : SessionState) (linked : Bool) (asked : Asked) (bytes : List ℕ) → q.core.bookmarks ≡ p.core.bookmarks
     → q.core.began ≡ p.core.began → IsPresented p.core.bookmarks (Send bytes) → linked ≡ true → is_asking p.core.stage ≡ true
     → Makes p linked (awaits q asked (Send bytes ∷ Receive ∷ []))
 asked_for p q linked asked bytes b s h l g = record {
@@ -248,13 +248,13 @@ asked_for p q linked asked bytes b s h l g = record {
   asking = λ e. g;
 }
 
-requested : (p q : Place) (linked : Bool) (asked : Asked) (request : Request) → q.core.bookmarks ≡ p.core.bookmarks
+requested : (p q : SessionState) (linked : Bool) (asked : Asked) (request : Request) → q.core.bookmarks ≡ p.core.bookmarks
     → q.core.began ≡ p.core.began → request_tag request ≢ 17 → linked ≡ true → is_asking p.core.stage ≡ true
     → Makes p linked (awaits q asked (asks request))
 requested p q linked asked request b s h l g =
     asked_for p q linked asked (chunked (short_request request)) b s (other p.core.bookmarks request h) l g
 
-pub shaken : (p : Place) (linked : Bool) (leg : Leg) → linked ≡ true
+pub shaken : (p : SessionState) (linked : Bool) (leg : Leg) → linked ≡ true
     → let t = awaits p (a.Shake leg) shakes in
     (t.place.core.bookmarks ≡ presented p.core.bookmarks t.actions) × Presents p.core.bookmarks t.actions
     × (t.place.core.began ≡ p.core.began) × (has_link t.place.core.stage ≡ linked_by linked t.actions)
@@ -276,42 +276,42 @@ pull_tag e = absurd (cc)
 commit_tag : request_tag commit ≢ 17
 commit_tag e = absurd (cc)
 
-ran : (p q : Place) (linked : Bool) (query : List ℕ) (params : Pairs) → q.core.bookmarks ≡ p.core.bookmarks → q.core.began ≡ p.core.began
+ran : (p q : SessionState) (linked : Bool) (query : List ℕ) (params : Pairs) → q.core.bookmarks ≡ p.core.bookmarks → q.core.began ≡ p.core.began
     → linked ≡ true → is_asking p.core.stage ≡ true → Makes p linked (awaits q a.Run (asks (run query params)))
 ran p q linked query params b s l g = requested p q linked a.Run (run query params) b s (run_tag query params) l g
 
-committed : (p q : Place) (linked : Bool) → q.core.bookmarks ≡ p.core.bookmarks → q.core.began ≡ p.core.began → linked ≡ true
+committed : (p q : SessionState) (linked : Bool) → q.core.bookmarks ≡ p.core.bookmarks → q.core.began ≡ p.core.began → linked ≡ true
     → is_asking p.core.stage ≡ true → Makes p linked (awaits q a.Commit (asks commit))
 committed p q linked b s l g = requested p q linked a.Commit commit b s commit_tag l g
 
-stepped : (p q : Place) (linked : Bool) (step : WorkStep) → q.core.bookmarks ≡ p.core.bookmarks → q.core.began ≡ p.core.began
+stepped : (p q : SessionState) (linked : Bool) (step : WorkStep) → q.core.bookmarks ≡ p.core.bookmarks → q.core.began ≡ p.core.began
     → linked ≡ true → is_asking p.core.stage ≡ true → Makes p linked (takes_step q step)
 stepped p q linked (w.Run query params) b s l g = ran p q linked query params b s l g
 stepped p q linked w.Commit b s l g = committed p q linked b s l g
 
-routed : (p : Place) (linked : Bool) → linked ≡ true → is_asking p.core.stage ≡ true
+routed : (p : SessionState) (linked : Bool) → linked ≡ true → is_asking p.core.stage ≡ true
     → Makes p linked (awaits p a.Route (asks (route p.core.address)))
 routed p linked l g = requested p p linked a.Route (route p.core.address) refl refl (route_tag p.core.address) l g
 
-opened_tx : (writes : Bool) (p : Place) (linked : Bool) → linked ≡ true → is_asking p.core.stage ≡ true
+opened_tx : (writes : Bool) (p : SessionState) (linked : Bool) → linked ≡ true → is_asking p.core.stage ≡ true
     → Makes p linked (awaits p a.Begin (asks (begin p.core.bookmarks writes)))
 opened_tx writes p linked l g =
     asked_for p p linked a.Begin (chunked (short_request (begin p.core.bookmarks writes))) refl refl (begun p.core.bookmarks writes) l g
 
-greeted : (writes : Bool) (p : Place) (linked : Bool) (leg : Leg) → linked ≡ true → is_asking p.core.stage ≡ true
+greeted : (writes : Bool) (p : SessionState) (linked : Bool) (leg : Leg) → linked ≡ true → is_asking p.core.stage ≡ true
     → Makes p linked (follows_hello writes p leg)
 greeted writes p linked Routing l g = routed p linked l g
 greeted writes p linked Working l g = opened_tx writes p linked l g
 
-said_hello : (config : SessionConfig) (p : Place) (linked : Bool) (leg : Leg) → linked ≡ true → is_asking p.core.stage ≡ true
+said_hello : (config : SessionConfig) (p : SessionState) (linked : Bool) (leg : Leg) → linked ≡ true → is_asking p.core.stage ≡ true
     → Makes p linked (awaits p (a.Hello leg) (asks (hello config.auth p.core.address)))
 said_hello config p linked leg l g =
     requested p p linked (a.Hello leg) (hello config.auth p.core.address) refl refl (hello_tag config.auth p.core.address) l g
 
-pulled : (p : Place) (linked : Bool) → linked ≡ true → is_asking p.core.stage ≡ true → Makes p linked (pulls p)
+pulled : (p : SessionState) (linked : Bool) → linked ≡ true → is_asking p.core.stage ≡ true → Makes p linked (pulls p)
 pulled p linked l g = requested p (at_core p (record p.core { rows = [] })) linked a.Pull pull refl refl pull_tag l g
 
-pub stayed : (p q : Place) (linked : Bool) → q.core.bookmarks ≡ p.core.bookmarks → q.core.began ≡ p.core.began → q.core.stage ≡ p.core.stage
+pub stayed : (p q : SessionState) (linked : Bool) → q.core.bookmarks ≡ p.core.bookmarks → q.core.began ≡ p.core.began → q.core.stage ≡ p.core.stage
     → has_link p.core.stage ≡ linked → Makes p linked (goes q [])
 stayed p q linked b s st l = record {
   bookmarks = b;
@@ -321,11 +321,11 @@ stayed p q linked b s st l = record {
   asking = λ e. sym (ap (λ (x : Stage). is_asking x) st) ∙ e;
 }
 
-began_steps : (job : Job) (p : Place) (linked : Bool) (told : List (List Row)) → linked ≡ true → is_asking p.core.stage ≡ true
+began_steps : (job : Job) (p : SessionState) (linked : Bool) (told : List (List Row)) → linked ≡ true → is_asking p.core.stage ≡ true
     → Makes p linked (steps_on job p told)
 began_steps job p linked told l g = stepped p (record { core = p.core; told = Some told }) linked (job.steps told) refl refl l g
 
-followed : (config : SessionConfig) (job : Job) (p : Place) (linked : Bool) (asked : Asked) → has_link p.core.stage ≡ linked
+followed : (config : SessionConfig) (job : Job) (p : SessionState) (linked : Bool) (asked : Asked) → has_link p.core.stage ≡ linked
     → linked ≡ true → is_asking p.core.stage ≡ true → Makes p linked (follows config job p asked)
 followed config job p linked (a.Shake leg) k l g = said_hello config p linked leg l g
 followed config job p linked (a.Hello leg) k l g = greeted job.writes p linked leg l g
@@ -334,14 +334,14 @@ followed config job p linked a.Run k l g = pulled p linked l g
 followed config job p linked a.Pull k l g = began_steps job p linked (so_far p.told ++ p.core.rows ∷ []) l g
 followed config job p linked _ k l g = stayed p p linked refl refl refl k
 
-kept_row : (p : Place) (linked : Bool) (fields : Row) → has_link p.core.stage ≡ linked → Makes p linked (keeps_row p fields)
+kept_row : (p : SessionState) (linked : Bool) (fields : Row) → has_link p.core.stage ≡ linked → Makes p linked (keeps_row p fields)
 kept_row p linked fields k = stayed p (at_core p (record p.core { rows = p.core.rows ++ fields ∷ [] })) linked refl refl refl k
 
-kept_table : (writes : Bool) (now : ℕ) (p : Place) (linked : Bool) (table : Table) → Makes p linked (keeps_and_joins writes now p table)
+kept_table : (writes : Bool) (now : ℕ) (p : SessionState) (linked : Bool) (table : Table) → Makes p linked (keeps_and_joins writes now p table)
 kept_table writes now p linked table =
     makes_closed p linked _ (moved p (keeps_table p table) false _ refl refl (λ e. e) (joined_server writes (keeps_table p table) now))
 
-pub answered : (config : SessionConfig) (job : Job) (now : ℕ) (p : Place) (asked : Asked) (number : ℕ) (told : Told) (linked : Bool)
+pub answered : (config : SessionConfig) (job : Job) (now : ℕ) (p : SessionState) (asked : Asked) (number : ℕ) (told : Told) (linked : Bool)
     → has_link p.core.stage ≡ linked → linked ≡ true → is_asking p.core.stage ≡ true
     → Makes p linked (behind config job now p asked number told)
 answered config job now p asked number says.Done linked k l g = followed config job p linked asked k l g

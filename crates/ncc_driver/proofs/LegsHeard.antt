@@ -25,7 +25,7 @@ use Rattle.ncc_driver.specs.declared.answers.Told.TheVariants as says
 use Rattle.ncc_driver.specs.declared.work.WorkStep.TheVariants as w
 use Rattle.ncc_driver.specs.Work.{Row, Job}
 use Rattle.ncc_driver.specs.Requests.{commit}
-use Rattle.ncc_driver.specs.State.{Place}
+use Rattle.ncc_driver.specs.State.{SessionState}
 use Rattle.ncc_driver.specs.Attempts.{done_of, attempts}
 use Rattle.ncc_driver.specs.Talk.{works_at}
 use Rattle.ncc_driver.specs.Session.{Listening, Standing, State, Ran, Moved, told_by, answered, listening, items_of, end_of, or_more}
@@ -92,7 +92,7 @@ module _ (config : SessionConfig) (given : List Value) (job : Job) where
   abbrev pub Committed : List ℕ → Trace → WorkDone → Type 0
   Committed came t done = IsCommitted config given job t.sent came done
 
-  committed : (came : List ℕ) (t : Trace) (p : Place) (message bookmark : List ℕ) (now : ℕ) (rows : List Row)
+  committed : (came : List ℕ) (t : Trace) (p : SessionState) (message bookmark : List ℕ) (now : ℕ) (rows : List Row)
       → Contains (messages_of (drop 4 came)) message → told_by a.Commit now rows (Message message) ≡ says.Committed bookmark
       → SentAt config given job t p.told a.Commit → Committed came (left t) (done_of p.core bookmark)
   committed came t p message bookmark now rows c e h =
@@ -116,7 +116,7 @@ module _ (config : SessionConfig) (given : List Value) (job : Job) where
   -- What these items tell of COMMIT is told by a message of the link.
   abbrev Supplies : (Trace → WorkDone → Type 0) → ℕ → List Item → Type 0
   Supplies C now items =
-      (t : Trace) (p : Place) (item : Item) (bookmark : List ℕ) → In items item
+      (t : Trace) (p : SessionState) (item : Item) (bookmark : List ℕ) → In items item
       → told_by a.Commit now p.core.rows item ≡ says.Committed bookmark → SentAt config given job t p.told a.Commit
       → C (left t) (done_of p.core bookmark)
 
@@ -128,7 +128,7 @@ module _ (config : SessionConfig) (given : List Value) (job : Job) where
 
   -- ---- what is heard
 
-  leg_of : (t : Trace) (p : Place) (st : Stage) → AtStage config given job t p st → IsSent config given job t
+  leg_of : (t : Trace) (p : SessionState) (st : Stage) → AtStage config given job t p st → IsSent config given job t
   leg_of t p stage.Rests h = h
   leg_of t p stage.Begun h = h.leg
   leg_of t p stage.Sleeps h = h.leg
@@ -136,19 +136,19 @@ module _ (config : SessionConfig) (given : List Value) (job : Job) where
   leg_of t p (stage.Awaits asked) h = h.0.open_.leg
 
   module _ (C : Trace → WorkDone → Type 0) where
-    abbrev GoesTo : Trace → Place → List Action → Type 0
+    abbrev GoesTo : Trace → SessionState → List Action → Type 0
     GoesTo t p actions = Goes config given job C t (record { place = p; actions = actions })
 
-    goes_on : (t : Trace) (p q : Place) (xs ys : List Action) → GoesTo t p xs → GoesTo (traced_all t xs) q ys → GoesTo t q (xs ++ ys)
+    goes_on : (t : Trace) (p q : SessionState) (xs ys : List Action) → GoesTo t p xs → GoesTo (traced_all t xs) q ys → GoesTo t q (xs ++ ys)
     goes_on t p q xs ys g h = record {
       along = along_on config given job C t xs ys g.along h.along;
       at = subst (λ (u : Trace). At config given job u q) (sym (traced_on t xs ys)) h.at;
     }
 
-    stands : (t : Trace) (p : Place) → At config given job t p → GoesTo t p []
+    stands : (t : Trace) (p : SessionState) → At config given job t p → GoesTo t p []
     stands t p h = record { along = leg_of t p p.core.stage h; at = h }
 
-    causes : (now : ℕ) (t : Trace) (p : Place) (asked : Asked) (item : Item) (items : List Item) → Supplies C now (item ∷ items)
+    causes : (now : ℕ) (t : Trace) (p : SessionState) (asked : Asked) (item : Item) (items : List Item) → Supplies C now (item ∷ items)
         → (bookmark : List ℕ) → told_by asked now p.core.rows item ≡ says.Committed bookmark → SentAt config given job t p.told asked
         → C (left t) (done_of p.core bookmark)
     causes now t p asked item items s bookmark e h =
@@ -173,7 +173,7 @@ module _ (config : SessionConfig) (given : List Value) (job : Job) where
         (ih (traced_all t u.actions) g.at (λ t' p' item' bookmark' h' e' s'. s t' p' item' bookmark' (inr h') e' s')))
         (λ l item items f t h s. stands t l.place h)
 
-    more_or : (t : Trace) (p q : Place) (actions : List Action) → t.over ≡ false → GoesTo t q actions → GoesTo t q (or_more actions)
+    more_or : (t : Trace) (p q : SessionState) (actions : List Action) → t.over ≡ false → GoesTo t q actions → GoesTo t q (or_more actions)
     more_or t p q [] o g = record { along = (g.along, o, tt, g.along); at = g.at }
     more_or t p q (action ∷ actions) o g = g
 
@@ -183,7 +183,7 @@ module _ (config : SessionConfig) (given : List Value) (job : Job) where
   GoesRan t r = GoesTo (Committed r.state.came) t r.state.place r.actions
 
   began : (t : Trace) (s : State) (st : Stage) (now : ℕ) → s.place.core.stage ≡ st → Open config given job t s.place.core.bookmarks
-      → ((q : Place) → Open config given job t q.core.bookmarks → AtStage config given job t q st)
+      → ((q : SessionState) → Open config given job t q.core.bookmarks → AtStage config given job t q st)
       → GoesTo (Committed s.came) t (attempts config job.writes s.place now).place (attempts config job.writes s.place now).actions
   began t s st now e o k =
       attempted config given job (Committed s.came) t job.writes s.place now o
@@ -233,7 +233,7 @@ module _ (config : SessionConfig) (given : List Value) (job : Job) where
       (others_change_nothing config job x.1 s x.0 (idle s.place.core.stage x.0 e))
       ∙ rests s xs e
 
-  live : (t : Trace) (p : Place) (st : Stage) → works_at st ≡ true → AtStage config given job t p st → t.over ≡ false
+  live : (t : Trace) (p : SessionState) (st : Stage) → works_at st ≡ true → AtStage config given job t p st → t.over ≡ false
   live t p stage.Rests w h = absurd (cc)
   live t p stage.Begun w h = h.over
   live t p stage.Sleeps w h = h.over

@@ -34,7 +34,7 @@ use Rattle.ncc_driver.specs.declared.work.WorkStep.{WorkStep}
 use Rattle.ncc_driver.specs.declared.work.WorkStep.TheVariants as w
 use Rattle.ncc_driver.specs.Work.{Row, Job, rows_fit, step_fits}
 use Rattle.ncc_driver.specs.Requests.{closes, asks, shakes, shake_bytes, hello, route, begin, run, pull, commit}
-use Rattle.ncc_driver.specs.State.{Place, Turned}
+use Rattle.ncc_driver.specs.State.{SessionState, Turned}
 use Rattle.ncc_driver.specs.Attempts.{goes, before, at_core, awaits, finishes, succeeds, refuses, refutes, retries, sleeps}
 use Rattle.ncc_driver.specs.Attempts.{is_spent, done_of}
 use Rattle.ncc_driver.specs.Attempts.{drops_table, loses, fails, fails_by, is_transient, is_no_leader, connects, joins, joins_server}
@@ -100,20 +100,20 @@ module _ (config : SessionConfig) (given : List Value) (job : Job) where
     pub over : t.over ≡ false
     pub given_is : bookmarks ≡ given
 
-  pub record OnLink (t : Trace) (p : Place) : Type 0 where
+  pub record OnLink (t : Trace) (p : SessionState) : Type 0 where
     pub open_ : Open t p.core.bookmarks
     pub address_is : p.core.address ≡ t.address
     pub joined : t.joined ≡ true
     pub rows : rows_fit p.core.rows ≡ true
 
-  abbrev pub AtStage : Trace → Place → Stage → Type 0
+  abbrev pub AtStage : Trace → SessionState → Stage → Type 0
   AtStage t p stage.Rests = IsSent t
   AtStage t p stage.Begun = Open t p.core.bookmarks
   AtStage t p stage.Sleeps = Open t p.core.bookmarks
   AtStage t p (stage.Joins leg) = OnLink t p × (t.sent ≡ [])
   AtStage t p (stage.Awaits asked) = OnLink t p × SentAt t p.told asked
 
-  abbrev pub At : Trace → Place → Type 0
+  abbrev pub At : Trace → SessionState → Type 0
   At t p = AtStage t p p.core.stage
 
   -- ---- what is done on the way
@@ -139,24 +139,24 @@ module _ (config : SessionConfig) (given : List Value) (job : Job) where
 
     -- ---- ends
 
-    failed : (t : Trace) (p : Place) (error : WorkError) → Open t p.core.bookmarks → Goes t (finishes p (Err error))
+    failed : (t : Trace) (p : SessionState) (error : WorkError) → Open t p.core.bookmarks → Goes t (finishes p (Err error))
     failed t p error o = record { along = (o.leg, o.over, tt, o.leg); at = o.leg }
 
-    slept : (t : Trace) (p : Place) (now : ℕ) → Open t p.core.bookmarks → Goes t (sleeps p now)
+    slept : (t : Trace) (p : SessionState) (now : ℕ) → Open t p.core.bookmarks → Goes t (sleeps p now)
     slept t p now o = record { along = (o.leg, o.over, tt, o.leg); at = record { leg = o.leg; over = o.over; given_is = o.given_is } }
 
-    retried_by : (t : Trace) (p : Place) (now : ℕ) (reason : Last) (spent : Bool) → Open t p.core.bookmarks
+    retried_by : (t : Trace) (p : SessionState) (now : ℕ) (reason : Last) (spent : Bool) → Open t p.core.bookmarks
         → Goes t (if spent then finishes p (Err (e.RetriesSpent p.core.attempts reason)) else sleeps p now)
     retried_by t p now reason true o = failed t p (e.RetriesSpent p.core.attempts reason) o
     retried_by t p now reason false o = slept t p now o
 
-    retried : (t : Trace) (p : Place) (now : ℕ) (reason : Last) → Open t p.core.bookmarks → Goes t (retries p now reason)
+    retried : (t : Trace) (p : SessionState) (now : ℕ) (reason : Last) → Open t p.core.bookmarks → Goes t (retries p now reason)
     retried t p now reason o = retried_by t p now reason (is_spent now p.core.began) o
 
-    pub lost : (t : Trace) (p : Place) (now : ℕ) → Open t p.core.bookmarks → Goes t (loses p now)
+    pub lost : (t : Trace) (p : SessionState) (now : ℕ) → Open t p.core.bookmarks → Goes t (loses p now)
     lost t p now o = retried t (drops_table p) now last.LinkLost o
 
-    fell_by : (t : Trace) (p : Place) (now : ℕ) (code : List ℕ) (again leaderless : Bool) → Open t p.core.bookmarks
+    fell_by : (t : Trace) (p : SessionState) (now : ℕ) (code : List ℕ) (again leaderless : Bool) → Open t p.core.bookmarks
         → Goes t (if again then retries p now (last.Code code) else if leaderless then retries (drops_table p) now (last.Code code)
         else refuses p code)
     fell_by t p now code true leaderless o = retried t p now (last.Code code) o
@@ -226,32 +226,32 @@ module _ (config : SessionConfig) (given : List Value) (job : Job) where
         (steps_part job config.auth t.address given s.rows s.requests w.Commit (commit ∷ []) [] s.ran s.step_is refl)
         (λ all. (hello_fits t all, (begin_fits t all, one_more s.requests commit (s.fit all.steps_are) refl)))
 
-    left_open : (t : Trace) (p : Place) (asked : Asked) → OnLink t p → SentAt t p.told asked → Open (left t) p.core.bookmarks
+    left_open : (t : Trace) (p : SessionState) (asked : Asked) → OnLink t p → SentAt t p.told asked → Open (left t) p.core.bookmarks
     left_open t p asked h s = record {
       leg = (closable t p.told asked s).closed;
       over = h.open_.over;
       given_is = h.open_.given_is;
     }
 
-    closed : (t : Trace) (p : Place) (asked : Asked) (u : Turned) → OnLink t p → SentAt t p.told asked → Goes (left t) u
+    closed : (t : Trace) (p : SessionState) (asked : Asked) (u : Turned) → OnLink t p → SentAt t p.told asked → Goes (left t) u
         → Goes t (before closes u)
     closed t p asked u h s g = record {
       along = (h.open_.leg, h.open_.over, h.joined, ((closable t p.told asked s).closed, h.open_.over, tt, g.along));
       at = g.at;
     }
 
-    fell : (t : Trace) (p : Place) (asked : Asked) (now : ℕ) (code : List ℕ) → OnLink t p → SentAt t p.told asked
+    fell : (t : Trace) (p : SessionState) (asked : Asked) (now : ℕ) (code : List ℕ) → OnLink t p → SentAt t p.told asked
         → Goes t (fails p now code)
     fell t p asked now code h s =
         closed t p asked (fails_by p now code) h s
         (fell_by (left t) p now code (is_transient code) (is_no_leader code) (left_open t p asked h s))
 
-    refuted : (t : Trace) (p : Place) (asked : Asked) (number : ℕ) → OnLink t p → SentAt t p.told asked → Goes t (refutes p number)
+    refuted : (t : Trace) (p : SessionState) (asked : Asked) (number : ℕ) → OnLink t p → SentAt t p.told asked → Goes t (refutes p number)
     refuted t p asked number h s =
         closed t p asked (finishes p (Err (e.BadReply number))) h s
         (failed (left t) p (e.BadReply number) (left_open t p asked h s))
 
-    succeeded : (t : Trace) (p : Place) (asked : Asked) (bookmark : List ℕ) → OnLink t p → SentAt t p.told asked
+    succeeded : (t : Trace) (p : SessionState) (asked : Asked) (bookmark : List ℕ) → OnLink t p → SentAt t p.told asked
         → C (left t) (done_of p.core bookmark) → Goes t (succeeds p bookmark)
     succeeded t p asked bookmark h s k =
         let o = left_open t p asked h s in
@@ -260,7 +260,7 @@ module _ (config : SessionConfig) (given : List Value) (job : Job) where
 
     -- ---- who is connected to
 
-    connected : (t : Trace) (p : Place) (core : Core) (leg : Leg) (address : List ℕ) → Open t core.bookmarks
+    connected : (t : Trace) (p : SessionState) (core : Core) (leg : Leg) (address : List ℕ) → Open t core.bookmarks
         → rows_fit core.rows ≡ true → Goes t (connects p core leg address)
     connected t p core leg address o f =
         let none = silent config.auth address given job in
@@ -277,23 +277,23 @@ module _ (config : SessionConfig) (given : List Value) (job : Job) where
           );
         }
 
-    joined : (t : Trace) (p : Place) (now : ℕ) (role : Role) (core : Core) (found : Option Value) → Open t core.bookmarks
+    joined : (t : Trace) (p : SessionState) (now : ℕ) (role : Role) (core : Core) (found : Option Value) → Open t core.bookmarks
         → rows_fit core.rows ≡ true → Goes t (joins p now role core found)
     joined t p now role core (Some (v.Text address)) o f = connected t p core Working address o f
     joined t p now role core _ o f = retried t (drops_table (at_core p core)) now (last.NoServer role) o
 
-    joined_server : (t : Trace) (writes : Bool) (p : Place) (now : ℕ) → Open t p.core.bookmarks → rows_fit p.core.rows ≡ true
+    joined_server : (t : Trace) (writes : Bool) (p : SessionState) (now : ℕ) → Open t p.core.bookmarks → rows_fit p.core.rows ≡ true
         → Goes t (joins_server writes p now)
     joined_server t writes p now o f =
         joined t p now (role_of writes) (drawn p.core) (picked (pcg32 p.core.words).0 (addresses_in (role_of writes) p.core.table)) o f
 
-    joined_by : (t : Trace) (p : Place) (core : Core) (found : Option Value) → Open t core.bookmarks → rows_fit core.rows ≡ true
+    joined_by : (t : Trace) (p : SessionState) (core : Core) (found : Option Value) → Open t core.bookmarks → rows_fit core.rows ≡ true
         → AtStage t (at_core p core) core.stage → Goes t (joins_by p core found)
     joined_by t p core (Some (v.Text address)) o f h = connected t p core Routing address o f
     joined_by t p core _ o f h = record { along = o.leg; at = h }
 
-    attempted_by : (t : Trace) (writes : Bool) (p : Place) (now : ℕ) (fresh : Bool) → Open t p.core.bookmarks
-        → ((q : Place) → q.core.bookmarks ≡ p.core.bookmarks → q.core.stage ≡ p.core.stage → At t q)
+    attempted_by : (t : Trace) (writes : Bool) (p : SessionState) (now : ℕ) (fresh : Bool) → Open t p.core.bookmarks
+        → ((q : SessionState) → q.core.bookmarks ≡ p.core.bookmarks → q.core.stage ≡ p.core.stage → At t q)
         → Goes t (if fresh then joins_server writes (opened p) now else joins_router config (opened p))
     attempted_by t writes p now true o h = joined_server t writes (opened p) now o no_rows
     attempted_by t writes p now false o h =
@@ -302,14 +302,14 @@ module _ (config : SessionConfig) (given : List Value) (job : Job) where
         joined_by t q core (router_of config q.core) o no_rows (h (at_core q core) refl refl)
 
     -- Begun or asleep, an attempt begins.
-    pub attempted : (t : Trace) (writes : Bool) (p : Place) (now : ℕ) → Open t p.core.bookmarks
-        → ((q : Place) → q.core.bookmarks ≡ p.core.bookmarks → q.core.stage ≡ p.core.stage → At t q)
+    pub attempted : (t : Trace) (writes : Bool) (p : SessionState) (now : ℕ) → Open t p.core.bookmarks
+        → ((q : SessionState) → q.core.bookmarks ≡ p.core.bookmarks → q.core.stage ≡ p.core.stage → At t q)
         → Goes t (attempts config writes p now)
     attempted t writes p now o h = attempted_by t writes p now (is_fresh now p.core.table) o h
 
     -- ---- what follows an answer
 
-    asked_for : (t : Trace) (p q : Place) (asked : Asked) (bytes : List ℕ) → OnLink t p → q.core.bookmarks ≡ p.core.bookmarks
+    asked_for : (t : Trace) (p q : SessionState) (asked : Asked) (bytes : List ℕ) → OnLink t p → q.core.bookmarks ≡ p.core.bookmarks
         → q.core.address ≡ p.core.address → rows_fit q.core.rows ≡ true → SentAt (traced t (Send bytes)) q.told asked
         → Goes t (awaits q asked (Send bytes ∷ Receive ∷ []))
     asked_for t p q asked bytes h b k f s =
@@ -327,32 +327,32 @@ module _ (config : SessionConfig) (given : List Value) (job : Job) where
           );
         }
 
-    pub shaken : (t : Trace) (p : Place) (leg : Leg) → OnLink t p → t.sent ≡ [] → Goes t (awaits p (a.Shake leg) shakes)
+    pub shaken : (t : Trace) (p : SessionState) (leg : Leg) → OnLink t p → t.sent ≡ [] → Goes t (awaits p (a.Shake leg) shakes)
     shaken t p leg h e =
         asked_for t p p (a.Shake leg) shake_bytes h refl refl h.rows (ap (λ (x : List (List ℕ)). x ++ shake_bytes ∷ []) e)
 
-    said_hello : (t : Trace) (p : Place) (leg : Leg) → OnLink t p → t.sent ≡ on_link []
+    said_hello : (t : Trace) (p : SessionState) (leg : Leg) → OnLink t p → t.sent ≡ on_link []
         → Goes t (awaits p (a.Hello leg) (asks (hello config.auth p.core.address)))
     said_hello t p leg h s =
         asked_for t p p (a.Hello leg) _ h refl refl h.rows
         (sent_more t.sent [] (hello config.auth p.core.address) s
         ∙ ap (λ (x : List ℕ). on_link (greeted x)) h.address_is)
 
-    routed : (t : Trace) (p : Place) → OnLink t p → t.sent ≡ on_link (greeted t.address)
+    routed : (t : Trace) (p : SessionState) → OnLink t p → t.sent ≡ on_link (greeted t.address)
         → Goes t (awaits p a.Route (asks (route p.core.address)))
     routed t p h s =
         asked_for t p p a.Route _ h refl refl h.rows
         (sent_more t.sent (greeted t.address) (route p.core.address) s
         ∙ ap (λ (x : List ℕ). on_link (hello config.auth t.address ∷ route x ∷ [])) h.address_is)
 
-    begun : (t : Trace) (p : Place) → OnLink t p → t.sent ≡ on_link (greeted t.address)
+    begun : (t : Trace) (p : SessionState) → OnLink t p → t.sent ≡ on_link (greeted t.address)
         → Goes t (awaits p a.Begin (asks (begin p.core.bookmarks job.writes)))
     begun t p h s =
         asked_for t p p a.Begin _ h refl refl h.rows
         (sent_more t.sent (greeted t.address) (begin p.core.bookmarks job.writes) s
         ∙ ap (λ (x : List Value). on_link (hello config.auth t.address ∷ begin x job.writes ∷ [])) h.open_.given_is)
 
-    greets : (t : Trace) (p : Place) (leg : Leg) → OnLink t p → t.sent ≡ on_link (greeted t.address)
+    greets : (t : Trace) (p : SessionState) (leg : Leg) → OnLink t p → t.sent ≡ on_link (greeted t.address)
         → Goes t (follows_hello job.writes p leg)
     greets t p Routing h s = routed t p h s
     greets t p Working h s = begun t p h s
@@ -383,7 +383,7 @@ module _ (config : SessionConfig) (given : List Value) (job : Job) where
       sent_is = more_sent t requests last s;
     }
 
-    stepped : (t : Trace) (p : Place) (rows : List (List Row)) (requests : List Request) (step : WorkStep) → OnLink t p
+    stepped : (t : Trace) (p : SessionState) (rows : List (List Row)) (requests : List Request) (step : WorkStep) → OnLink t p
         → Far rows requests → job.steps rows ≡ step
         → t.sent ≡ on_link (hello config.auth t.address ∷ begin given job.writes ∷ requests)
         → Goes t (takes_step (record { core = p.core; told = Some rows }) step)
@@ -394,11 +394,11 @@ module _ (config : SessionConfig) (given : List Value) (job : Job) where
         asked_for t p (record { core = p.core; told = Some rows }) a.Commit _ h refl refl h.rows
         (asked_steps t rows requests w.Commit commit n e s)
 
-    steps_go : (t : Trace) (p : Place) (rows : List (List Row)) (requests : List Request) → OnLink t p → Far rows requests
+    steps_go : (t : Trace) (p : SessionState) (rows : List (List Row)) (requests : List Request) → OnLink t p → Far rows requests
         → t.sent ≡ on_link (hello config.auth t.address ∷ begin given job.writes ∷ requests) → Goes t (steps_on job p rows)
     steps_go t p rows requests h n s = stepped t p rows requests (job.steps rows) h n refl s
 
-    pulled : (t : Trace) (p : Place) → OnLink t p → SentAt t p.told a.Run → Goes t (pulls p)
+    pulled : (t : Trace) (p : SessionState) → OnLink t p → SentAt t p.told a.Run → Goes t (pulls p)
     pulled t p h (query, params, s) =
         asked_for t p (at_core p (record p.core { rows = [] })) a.Pull _ h refl refl no_rows (
           query,
@@ -426,7 +426,7 @@ module _ (config : SessionConfig) (given : List Value) (job : Job) where
       fit = ran_fits s.rows s.requests query params s.rows_are s.step_is s.fit;
     }
 
-    went_on : (t : Trace) (p : Place) → OnLink t p → SentAt t p.told a.Pull
+    went_on : (t : Trace) (p : SessionState) → OnLink t p → SentAt t p.told a.Pull
         → Goes t (steps_on job p (so_far p.told ++ p.core.rows ∷ []))
     went_on t p h (query, params, s) =
         let same : s.rows ≡ so_far p.told = sym (ap so_far s.told_is) in
@@ -436,7 +436,7 @@ module _ (config : SessionConfig) (given : List Value) (job : Job) where
         (one_step_more t p.told p.core.rows query params s h.rows)) s.sent_is
 
     -- what is awaited stays so
-    stays : (t : Trace) (p q : Place) (asked : Asked) → q.core.stage ≡ stage.Awaits asked → OnLink t p
+    stays : (t : Trace) (p q : SessionState) (asked : Asked) → q.core.stage ≡ stage.Awaits asked → OnLink t p
         → q.core.bookmarks ≡ p.core.bookmarks → q.core.address ≡ p.core.address → rows_fit q.core.rows ≡ true
         → SentAt t q.told asked → Goes t (goes q [])
     stays t p q asked e h b k f s = record {
@@ -455,7 +455,7 @@ module _ (config : SessionConfig) (given : List Value) (job : Job) where
     no_steps : Far [] []
     no_steps = record { ran = refl; rows_are = refl; fit = λ j. tt }
 
-    followed : (t : Trace) (p : Place) (asked : Asked) → p.core.stage ≡ stage.Awaits asked → OnLink t p → SentAt t p.told asked
+    followed : (t : Trace) (p : SessionState) (asked : Asked) → p.core.stage ≡ stage.Awaits asked → OnLink t p → SentAt t p.told asked
         → Goes t (follows config job p asked)
     followed t p (a.Shake leg) e h s = said_hello t p leg h s
     followed t p (a.Hello leg) e h s = greets t p leg h s
@@ -466,11 +466,11 @@ module _ (config : SessionConfig) (given : List Value) (job : Job) where
     followed t p a.Commit e h s = stays t p p a.Commit e h refl refl h.rows s
 
     -- The success of COMMIT has its cause.
-    abbrev pub Causes : Trace → Place → Asked → Told → Type 0
+    abbrev pub Causes : Trace → SessionState → Asked → Told → Type 0
     Causes t p asked told =
         (bookmark : List ℕ) → told ≡ says.Committed bookmark → SentAt t p.told asked → C (left t) (done_of p.core bookmark)
 
-    pub answered : (now : ℕ) (t : Trace) (p : Place) (asked : Asked) (number : ℕ) (told : Told) → p.core.stage ≡ stage.Awaits asked
+    pub answered : (now : ℕ) (t : Trace) (p : SessionState) (asked : Asked) (number : ℕ) (told : Told) → p.core.stage ≡ stage.Awaits asked
         → OnLink t p → SentAt t p.told asked → Own p.core.rows asked told → Causes t p asked told
         → Goes t (behind config job now p asked number told)
     answered now t p asked number says.Done e h s o c = followed t p asked e h s

@@ -21,7 +21,7 @@ use Rattle.ncc_driver.specs.declared.link.Item.TheVariants.{Shaken, Message, Too
 use Rattle.ncc_driver.specs.declared.work.WorkStep.{WorkStep}
 use Rattle.ncc_driver.specs.Line.{Line}
 use Rattle.ncc_driver.specs.Work.{Row, Job, job_by}
-use Rattle.ncc_driver.specs.State.{Place, Turned, BehindAt, MakesWith}
+use Rattle.ncc_driver.specs.State.{SessionState, Turned, BehindAt, MakesWith}
 use Rattle.ncc_driver.specs.Attempts.{behind as turn_behind}
 use Rattle.ncc_driver.specs.Session.{Listening, Standing, told_by, answered, takes, takes_by, items_of, Ran, on, on_input, or_more, heard}
 use Rattle.ncc_driver.specs.Talk.{Keeps, KeepsAt}
@@ -133,12 +133,12 @@ long_bad a.Run now rows = refl
 long_bad a.Pull now rows = refl
 long_bad a.Commit now rows = refl
 
-bad_rests : (config : SessionConfig) (job : Job) (now : ℕ) (p : Place) (asked : Asked) (number : ℕ) (told : Told) → told ≡ m.Bad
+bad_rests : (config : SessionConfig) (job : Job) (now : ℕ) (p : SessionState) (asked : Asked) (number : ℕ) (told : Told) → told ≡ m.Bad
     → (turn_behind config job now p asked number told).place.core.stage ≡ stage.Rests
 bad_rests config job now p asked number told e =
     subst (λ (t : Told). (turn_behind config job now p asked number t).place.core.stage ≡ stage.Rests) (sym e) refl
 
-keeps_behind : (config : SessionConfig) (job : Job) (now : ℕ) (p : Place) (asked : Asked) (number : ℕ) (rows : List Row) (x : Item)
+keeps_behind : (config : SessionConfig) (job : Job) (now : ℕ) (p : SessionState) (asked : Asked) (number : ℕ) (rows : List Row) (x : Item)
     (new : Core) (line : Line) (came : List ℕ) (taken : ℕ) → (turn_behind config job now p asked number
     (told_by asked now rows x)).place.core ≡ new
     → KeepsBehind x line came taken → KeepsAt new.stage line came taken
@@ -180,7 +180,7 @@ hears_one config job now asked number item found stood stands core new line new_
     came taken b k =
     let kept : Keeps line came taken = subst (λ (s : Stage). KeepsAt s line came taken) at k in
     let item_is = (subst (λ (o : Option Item). TakesItem line o new_line) f takes_it) came taken kept in
-    let p : Place = record { core = core; told = told } in
+    let p : SessionState = record { core = core; told = told } in
     let l : Listening = listening_of core told taken in
     let t = turn_behind config job now p asked number (told_by asked now core.rows item) in
     let r = makes told b in
@@ -197,7 +197,7 @@ hears_one config job now asked number item found stood stands core new line new_
       keeps = keeps_behind config job now p asked number core.rows item new new_line came (taken + 1) r.0 item_is.1;
       same = hears_item config job now l asked item came at item_is.0
           ∙ ap (λ (u : Turned). behind u.actions (hearing config job now (record { place = u.place; taken = taken + 1 }) came)) same_number
-          ∙ ap (λ (x : Place). behind t.actions (hearing config job now (record { place = x; taken = taken + 1 }) came)) there;
+          ∙ ap (λ (x : SessionState). behind t.actions (hearing config job now (record { place = x; taken = taken + 1 }) came)) there;
       out_is = r.1;
       still = λ e. absurd (true_is_not e);
     }

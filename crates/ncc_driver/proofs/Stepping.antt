@@ -17,7 +17,7 @@ use Rattle.ncc_driver.specs.Keeping.{core_keeps}
 use Rattle.ncc_driver.specs.Line.{Line}
 use Rattle.ncc_driver.specs.Requests.{shakes}
 use Rattle.ncc_driver.specs.Work.{Job, job_by}
-use Rattle.ncc_driver.specs.State.{Place, Makes, MakesAnew, BehindAt}
+use Rattle.ncc_driver.specs.State.{SessionState, Makes, MakesAnew, BehindAt}
 use Rattle.ncc_driver.specs.Attempts.{attempts, loses, drops_table}
 use Rattle.ncc_driver.specs.Session.{State, Ran, same, on_place, opens, on_input, on}
 use Rattle.ncc_driver.specs.Talk.{Keeps, KeepsAt, StandsAt}
@@ -87,8 +87,8 @@ anew_quiet : (config : SessionConfig) (writes : Bool) (now : ℕ) (core new : Co
     → core_keeps core ≡ true → awaits_more core.stage ≡ false → MakesAnew (λ p. attempts config writes p now) core new before after
     → awaits_more new.stage ≡ false
 anew_quiet config writes now core new before after f k q m =
-    let p : Place = record { core = core; told = None } in
-    let e : (attempts config writes p now).place.core ≡ new = ap (λ (x : Place). x.core) (m None).0 in
+    let p : SessionState = record { core = core; told = None } in
+    let e : (attempts config writes p now).place.core ≡ new = ap (λ (x : SessionState). x.core) (m None).0 in
     subst (λ (c : Core). awaits_more c.stage ≡ false) e (attempts_quiet config writes p now f (kept_of core k) q)
 
 -- this input begins an attempt
@@ -111,7 +111,7 @@ attempt_moves config writes was steps now input stands core new line before afte
     let is : on config job now s input ≡ on_place s (attempts config was s.place now) =
     ap (λ (x : Stage). on_input config job now s x input) e ∙ f config job now s in
     subst (λ (r : Ran). MovesTo r stands before new line after) (sym is) (
-      ap (λ (x : Place). x.core) (m' told).0,
+      ap (λ (x : SessionState). x.core) (m' told).0,
       (m' told).1,
       keeps_quiet new.stage line came taken q,
       quiet_behind new.stage stands (attempts config was s.place now).place.told q,
@@ -148,15 +148,15 @@ anew_stands config writes now core new before after stands st e quiet f k m =
 lost_quiet : (now : ℕ) (core new : Core) (before after : List Action) → Makes (λ p. loses p now) core new before after
     → awaits_more new.stage ≡ false
 lost_quiet now core new before after m =
-    let p : Place = record { core = core; told = None } in
-    let e : (loses p now).place.core ≡ new = ap (λ (x : Place). x.core) (m None).0 in
+    let p : SessionState = record { core = core; told = None } in
+    let e : (loses p now).place.core ≡ new = ap (λ (x : SessionState). x.core) (m None).0 in
     subst (λ (c : Core). awaits_more c.stage ≡ false) e (retries_quiet (drops_table p) now _)
 
 pub lost_keeps : (now : ℕ) (core new : Core) (before after : List Action) → core_keeps core ≡ true
     → Makes (λ p. loses p now) core new before after → core_keeps new ≡ true
 lost_keeps now core new before after k m =
-    let p : Place = record { core = core; told = None } in
-    let e : (loses p now).place.core ≡ new = ap (λ (x : Place). x.core) (m None).0 in
+    let p : SessionState = record { core = core; told = None } in
+    let e : (loses p now).place.core ≡ new = ap (λ (x : SessionState). x.core) (m None).0 in
     keeps_by new (subst (λ (c : Core). Kept c) e (loses_kept p now (kept_of core k)))
 
 pub lost_stands : (now : ℕ) (core new : Core) (before after : List Action) (stands : Rows → Type 0)
@@ -178,7 +178,7 @@ lost_moves config job now input stands core new line before after st e f m told 
     let is : on config job now s input ≡ on_place s (loses s.place now) =
     ap (λ (x : Stage). on_input config job now s x input) e ∙ f config job now s in
     subst (λ (r : Ran). MovesTo r stands before new line after) (sym is) (
-      ap (λ (x : Place). x.core) (m told).0,
+      ap (λ (x : SessionState). x.core) (m told).0,
       (m told).1,
       keeps_quiet new.stage line came taken q,
       quiet_behind new.stage stands (loses s.place now).place.told q,

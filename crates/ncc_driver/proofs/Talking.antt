@@ -7,7 +7,7 @@ use Rattle.ncc_driver.specs.declared.action.Action.{Action}
 use Rattle.ncc_driver.specs.declared.action.Input.{Input}
 use Rattle.ncc_driver.specs.Line.{Line}
 use Rattle.ncc_driver.specs.Work.{Job}
-use Rattle.ncc_driver.specs.State.{Place, BehindAt, new_core}
+use Rattle.ncc_driver.specs.State.{SessionState, BehindAt, new_core}
 use Rattle.ncc_driver.specs.Session.{State, Ran, Moved, Begun, new_state, same, on, begins, ahead, told_all, works_all, session, told_in}
 use Rattle.ncc_driver.specs.Talk.{Held, KeepsAt, Stands, begun, grown, Begins, Tells, TellBreaks, StaysWith}
 use Rattle.ncc_driver.specs.Hearing.{Moves}
@@ -136,7 +136,7 @@ moved_by held job input now new line queue stood stands config works last out m 
     let m'' = subst (λ (x : Job). Moves config x now input stood stands held.core held.line held.queue new line queue) (sym j) m' in
     let at : record { core = held.core; told = s.place.told } ≡ s.place =
     ap (λ (c : Core). record { core = c; told = s.place.told }) (sym k.core_is) in
-    subst (λ (p : Place). let r = on config last.job now (record { place = p; came = s.came; taken = s.taken }) input in
+    subst (λ (p : SessionState). let r = on config last.job now (record { place = p; came = s.came; taken = s.taken }) input in
     (r.state.place.core ≡ new) × (queue ≡ held.queue ++ r.actions) × KeepsAt new.stage line r.state.came r.state.taken
     × BehindAt new.stage stands r.state.place.told) at (m'' s.place.told s.came s.taken b k.line_is)
 

@@ -8,7 +8,7 @@ use Rattle.ncc_driver.specs.declared.action.Action.{Action}
 use Rattle.ncc_driver.specs.declared.action.Last.{Last}
 use Rattle.ncc_driver.specs.declared.action.WorkDone.{WorkDone}
 use Rattle.ncc_driver.specs.declared.action.WorkError.TheVariants as e
-use Rattle.ncc_driver.specs.State.{Place, Turned, Makes}
+use Rattle.ncc_driver.specs.State.{SessionState, Turned, Makes}
 use Rattle.ncc_driver.specs.Work.{Row}
 use Rattle.ncc_driver.specs.Requests.{closes}
 use Rattle.ncc_driver.specs.Attempts.{is_spent, finishes, retries, sleeps, before, is_transient, is_no_leader, fails, at_core, place_of}
@@ -23,7 +23,7 @@ pub slept_retries : (core new : Core) (now : ℕ) (last : Last) (qs rs : List Ac
 slept_retries core new now last qs rs b h told = rw b (h told)
 
 -- what is done behind the closing of a link
-pub closed : (turn : Place → Turned) (core new : Core) (qs mid rs : List Action) → mid ≡ qs ++ closes
+pub closed : (turn : SessionState → Turned) (core new : Core) (qs mid rs : List Action) → mid ≡ qs ++ closes
     → Makes turn core new mid rs → Makes (λ p. before closes (turn p)) core new qs rs
 closed turn core new qs mid rs m h told =
     let actions = (turn (record { core = core; told = told })).actions in

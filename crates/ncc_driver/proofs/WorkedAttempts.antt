@@ -23,7 +23,7 @@ use Rattle.ncc_driver.specs.declared.work.WorkStep.{WorkStep}
 use Rattle.ncc_driver.specs.Work.{Row, Job, job_by}
 use Rattle.ncc_driver.specs.Requests.{shakes, asks, closes, hello, route, begin}
 use Rattle.ncc_driver.specs.Answers.{message_of}
-use Rattle.ncc_driver.specs.State.{Place, Turned}
+use Rattle.ncc_driver.specs.State.{SessionState, Turned}
 use Rattle.ncc_driver.specs.Attempts.{one_more as step_up, attempts, is_fresh, opened, joins_server, joins_router, joins_by, or_else}
 use Rattle.ncc_driver.specs.Attempts.{role_of, joins, drawn, keeps_table, goes, before}
 use Rattle.ncc_driver.specs.Session.{State, Ran, Moved, items_of, or_more, on_place, on, ahead}
@@ -54,7 +54,7 @@ serving c t address st = record c {
 abbrev pub stands : Core → Option (List (List Row)) → List ℕ → ℕ → State
 stands core told came taken = record { place = record { core = core; told = told }; came = came; taken = taken }
 
-routes_by : (p : Place) (now : ℕ) (fresh : Bool) → p.core.route ≡ [] → fresh ≡ false
+routes_by : (p : SessionState) (now : ℕ) (fresh : Bool) → p.core.route ≡ [] → fresh ≡ false
     → (if fresh then joins_server true (opened p) now else joins_router config (opened p))
     ≡ goes (record { core = asking p.core (stage.Joins Routing); told = None }) (Connect n1 ∷ [])
 routes_by p now true r e = absurd (cc)
@@ -63,7 +63,7 @@ routes_by p now false r e =
     ap (λ (l : List Value). joins_by (opened p) core (picked p.core.connects (or_else l config.routers))) r
     ∙ ap (λ (o : Option Value). joins_by (opened p) core o) (picks_one p.core.connects (v.Text n1))
 
-pub routes : (p : Place) (now : ℕ) → p.core.route ≡ [] → is_fresh now p.core.table ≡ false
+pub routes : (p : SessionState) (now : ℕ) → p.core.route ≡ [] → is_fresh now p.core.table ≡ false
     → attempts config true p now ≡ goes (record { core = asking p.core (stage.Joins Routing); told = None }) (Connect n1 ∷ [])
 routes p now r e = routes_by p now (is_fresh now p.core.table) r e
 

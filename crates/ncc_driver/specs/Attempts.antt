@@ -32,24 +32,24 @@ use Rattle.ncc_driver.specs.Work.{Row, Job}
 use Rattle.ncc_driver.specs.Requests.{asks, closes, hello, route, begin, run, pull, commit}
 use Rattle.ncc_driver.specs.declared.answers.Told.{Told}
 use Rattle.ncc_driver.specs.declared.answers.Told.TheVariants as m
-use Rattle.ncc_driver.specs.State.{Place, Turned}
+use Rattle.ncc_driver.specs.State.{SessionState, Turned}
 
 -- the session stands there and wants this done
-abbrev pub goes : Place → List Action → Turned
+abbrev pub goes : SessionState → List Action → Turned
 goes place actions = record { place = place; actions = actions }
 
 -- the same, with this done before
 abbrev pub before : List Action → Turned → Turned
 before actions t = record { place = t.place; actions = actions ++ t.actions }
 
-abbrev pub at_core : Place → Core → Place
+abbrev pub at_core : SessionState → Core → SessionState
 at_core place core = record { core = core; told = place.told }
 
-abbrev pub waits : Place → Stage → Place
+abbrev pub waits : SessionState → Stage → SessionState
 waits place stage = at_core place (record place.core { stage = stage })
 
 -- a request is sent, and its answer awaited
-abbrev pub awaits : Place → Asked → List Action → Turned
+abbrev pub awaits : SessionState → Asked → List Action → Turned
 awaits place asked actions = goes (waits place (stage.Awaits asked)) actions
 
 -- one more, which stays at the greatest number
@@ -58,7 +58,7 @@ one_more n = min (n + 1) (2 ^ 64 - 1)
 
 -- ---- the ends of a work
 
-abbrev pub finishes : Place → Result WorkDone WorkError → Turned
+abbrev pub finishes : SessionState → Result WorkDone WorkError → Turned
 finishes place result = goes (waits place stage.Rests) (Finish result ∷ [])
 
 -- the place of a bookmark of whatever cluster
@@ -73,14 +73,14 @@ abbrev pub done_of : Core → List ℕ → WorkDone
 done_of core bookmark = record { attempts = core.attempts; place = place_of bookmark; bookmark = bookmark; rows = core.rows }
 
 -- From now on the bookmark of this success is presented.
-abbrev pub succeeds : Place → List ℕ → Turned
+abbrev pub succeeds : SessionState → List ℕ → Turned
 succeeds place bookmark =
     before closes (finishes (at_core place (record place.core { bookmarks = v.Text bookmark ∷ [] })) (Ok (done_of place.core bookmark)))
 
-abbrev pub refuses : Place → List ℕ → Turned
+abbrev pub refuses : SessionState → List ℕ → Turned
 refuses place code = finishes place (Err (e.Refused place.core.attempts code))
 
-abbrev pub refutes : Place → ℕ → Turned
+abbrev pub refutes : SessionState → ℕ → Turned
 refutes place number = before closes (finishes place (Err (e.BadReply number)))
 
 -- ---- a retry, and its delay
@@ -99,7 +99,7 @@ next_delay delay = min (delay * 2) longest
 abbrev pub slept : Core → Core
 slept core = record core { stage = stage.Sleeps; words = (pcg32 core.words).1; delay = next_delay core.delay }
 
-abbrev pub sleeps : Place → ℕ → Turned
+abbrev pub sleeps : SessionState → ℕ → Turned
 sleeps place now = goes (at_core place (slept place.core)) (Sleep (until_of now place.core.delay (pcg32 place.core.words).0) ∷ [])
 
 -- Too long has passed since the work began.
@@ -107,15 +107,15 @@ abbrev pub is_spent : ℕ → ℕ → Bool
 is_spent now began = nat_le longest (now - began)
 
 -- An attempt has failed that may be tried again.
-abbrev pub retries : Place → ℕ → Last → Turned
+abbrev pub retries : SessionState → ℕ → Last → Turned
 retries place now last =
     if is_spent now place.core.began then finishes place (Err (e.RetriesSpent place.core.attempts last))
     else sleeps place now
 
-abbrev pub drops_table : Place → Place
+abbrev pub drops_table : SessionState → SessionState
 drops_table place = at_core place (record place.core { table = None })
 
-abbrev pub loses : Place → ℕ → Turned
+abbrev pub loses : SessionState → ℕ → Turned
 loses place now = retries (drops_table place) now last.LinkLost
 
 -- ---- a code
@@ -133,18 +133,18 @@ is_transient code = bytes_eq (take (length transient) code) transient
 abbrev pub is_no_leader : List ℕ → Bool
 is_no_leader code = bytes_eq code not_a_leader
 
-abbrev pub fails_by : Place → ℕ → List ℕ → Turned
+abbrev pub fails_by : SessionState → ℕ → List ℕ → Turned
 fails_by place now code =
     if is_transient code then retries place now (last.Code code)
     else if is_no_leader code then retries (drops_table place) now (last.Code code)
     else refuses place code
 
-abbrev pub fails : Place → ℕ → List ℕ → Turned
+abbrev pub fails : SessionState → ℕ → List ℕ → Turned
 fails place now code = before closes (fails_by place now code)
 
 -- ---- who is connected to
 
-abbrev pub connects : Place → Core → Leg → List ℕ → Turned
+abbrev pub connects : SessionState → Core → Leg → List ℕ → Turned
 connects place core leg address =
     goes (at_core place (record core { stage = stage.Joins leg; address = address })) (Connect address ∷ [])
 
@@ -159,12 +159,12 @@ addresses_in role None = []
 abbrev pub drawn : Core → Core
 drawn core = record core { words = (pcg32 core.words).1 }
 
-abbrev pub joins : Place → ℕ → Role → Core → Option Value → Turned
+abbrev pub joins : SessionState → ℕ → Role → Core → Option Value → Turned
 joins place now role core (Some (v.Text address)) = connects place core Working address
 joins place now role core _ = retries (drops_table (at_core place core)) now (last.NoServer role)
 
 -- the server of the transaction: the next word picks it among the table's of the role
-abbrev pub joins_server : Bool → Place → ℕ → Turned
+abbrev pub joins_server : Bool → SessionState → ℕ → Turned
 joins_server writes place now =
     let role = role_of writes in
     joins place now role (drawn place.core) (picked (pcg32 place.core.words).0 (addresses_in role place.core.table))
@@ -178,11 +178,11 @@ or_else (x ∷ xs) those = x ∷ xs
 abbrev pub router_of : SessionConfig → Core → Option Value
 router_of config core = picked core.connects (or_else core.route config.routers)
 
-abbrev pub joins_by : Place → Core → Option Value → Turned
+abbrev pub joins_by : SessionState → Core → Option Value → Turned
 joins_by place core (Some (v.Text address)) = connects place core Routing address
 joins_by place core _ = goes (at_core place core) []
 
-abbrev pub joins_router : SessionConfig → Place → Turned
+abbrev pub joins_router : SessionConfig → SessionState → Turned
 joins_router config place =
     joins_by place (record place.core { connects = one_more place.core.connects }) (router_of config place.core)
 
@@ -191,38 +191,38 @@ is_fresh now (Some table) = nat_lt now (ends table)
 is_fresh now None = false
 
 -- one more attempt, which was told nothing
-abbrev pub opened : Place → Place
+abbrev pub opened : SessionState → SessionState
 opened place = record { core = record place.core { attempts = one_more place.core.attempts; rows = [] }; told = None }
 
 -- An attempt begins: a table that is fresh at this moment serves it.
-abbrev pub attempts : SessionConfig → Bool → Place → ℕ → Turned
+abbrev pub attempts : SessionConfig → Bool → SessionState → ℕ → Turned
 attempts config writes place now =
     if is_fresh now place.core.table then joins_server writes (opened place) now else joins_router config (opened place)
 
 -- ---- what follows an answer
 
 -- the next step of the work, behind the rows so far
-abbrev pub takes_step : Place → WorkStep → Turned
+abbrev pub takes_step : SessionState → WorkStep → Turned
 takes_step place (w.Run query params) = awaits place a.Run (asks (run query params))
 takes_step place w.Commit = awaits place a.Commit (asks commit)
 
 -- behind the rows of one more step
-abbrev pub steps_on : Job → Place → List (List Row) → Turned
+abbrev pub steps_on : Job → SessionState → List (List Row) → Turned
 steps_on job place told = takes_step (record { core = place.core; told = Some told }) (job.steps told)
 
 abbrev pub so_far : Option (List (List Row)) → List (List Row)
 so_far (Some told) = told
 so_far None = []
 
-abbrev pub pulls : Place → Turned
+abbrev pub pulls : SessionState → Turned
 pulls place = awaits (at_core place (record place.core { rows = [] })) a.Pull (asks pull)
 
-abbrev pub follows_hello : Bool → Place → Leg → Turned
+abbrev pub follows_hello : Bool → SessionState → Leg → Turned
 follows_hello writes place Routing = awaits place a.Route (asks (route place.core.address))
 follows_hello writes place Working = awaits place a.Begin (asks (begin place.core.bookmarks writes))
 
 -- behind an answer that says that all went well
-abbrev pub follows : SessionConfig → Job → Place → Asked → Turned
+abbrev pub follows : SessionConfig → Job → SessionState → Asked → Turned
 follows config job place (a.Shake leg) = awaits place (a.Hello leg) (asks (hello config.auth place.core.address))
 follows config job place (a.Hello leg) = follows_hello job.writes place leg
 follows config job place a.Begin = steps_on job place []
@@ -230,17 +230,17 @@ follows config job place a.Run = pulls place
 follows config job place a.Pull = steps_on job place (so_far place.told ++ place.core.rows ∷ [])
 follows config job place _ = goes place []
 
-abbrev pub keeps_row : Place → Row → Turned
+abbrev pub keeps_row : SessionState → Row → Turned
 keeps_row place fields = goes (at_core place (record place.core { rows = place.core.rows ++ fields ∷ [] })) []
 
-abbrev pub keeps_table : Place → Table → Place
+abbrev pub keeps_table : SessionState → Table → SessionState
 keeps_table place table = at_core place (record place.core { table = Some table; route = table.route })
 
-abbrev pub keeps_and_joins : Bool → ℕ → Place → Table → Turned
+abbrev pub keeps_and_joins : Bool → ℕ → SessionState → Table → Turned
 keeps_and_joins writes now place table = before closes (joins_server writes (keeps_table place table) now)
 
 -- behind each answer of the awaited request, at this moment; the number is that of its message on the link
-abbrev pub behind : SessionConfig → Job → ℕ → Place → Asked → ℕ → Told → Turned
+abbrev pub behind : SessionConfig → Job → ℕ → SessionState → Asked → ℕ → Told → Turned
 behind config job now place asked number m.Done = follows config job place asked
 behind config job now place asked number (m.Row fields) = keeps_row place fields
 behind config job now place asked number (m.Routed table) = keeps_and_joins job.writes now place table

@@ -24,7 +24,7 @@ use Rattle.ncc_driver.specs.declared.answers.Told.{Told}
 use Rattle.ncc_driver.specs.declared.answers.Told.TheVariants as says
 use Rattle.ncc_driver.specs.Work.{Job}
 use Rattle.ncc_driver.specs.Requests.{shakes}
-use Rattle.ncc_driver.specs.State.{Place, Turned}
+use Rattle.ncc_driver.specs.State.{SessionState, Turned}
 use Rattle.ncc_driver.specs.Attempts.{awaits, attempts, loses, behind, role_of, done_of, one_more}
 use Rattle.ncc_driver.specs.Session.{State, Listening, Moved, Begun, items_of, told_by, answered, listening, on, begins, told_all}
 use Rattle.ncc_driver.specs.Session.{new_state, acts}
@@ -49,13 +49,13 @@ pub record Moment : Type 0 where
   pub job : Job
   pub began : ℕ
   pub now : ℕ
-  pub place : Place
+  pub place : SessionState
   pub met : Met
 
-abbrev pub moment : Begun → ℕ → Place → Met → Moment
+abbrev pub moment : Begun → ℕ → SessionState → Met → Moment
 moment work now place met = record { job = work.job; began = work.began; now = now; place = place; met = met }
 
-abbrev pub turns_by : SessionConfig → Job → ℕ → Place → Met → Turned
+abbrev pub turns_by : SessionConfig → Job → ℕ → SessionState → Met → Turned
 turns_by config job now place starts = attempts config job.writes place now
 turns_by config job now place (joins leg) = awaits place (a.Shake leg) shakes
 turns_by config job now place (hears asked number item) =

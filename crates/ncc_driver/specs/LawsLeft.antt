@@ -15,7 +15,7 @@ use Rattle.ncc_driver.specs.declared.action.Input.TheVariants as i
 use Rattle.ncc_driver.specs.declared.work.WorkStep.TheVariants as w
 use Rattle.ncc_driver.specs.Work.{Row, Job, job_by}
 use Rattle.ncc_driver.specs.Works.{add_steps, put_steps, get_steps}
-use Rattle.ncc_driver.specs.State.{Place}
+use Rattle.ncc_driver.specs.State.{SessionState}
 use Rattle.ncc_driver.specs.Attempts.{so_far}
 use Rattle.ncc_driver.specs.Session.{State, Moved, on, told_all}
 use Rattle.ncc_driver.specs.LawsLegs.{wire}
@@ -56,7 +56,7 @@ left_at most (stage.Awaits asked) ran = left_awaiting most asked ran
 left_at most _ ran = 0
 
 -- the same of a session whose running attempt was told these rows
-abbrev pub left_of : ℕ → Place → ℕ
+abbrev pub left_of : ℕ → SessionState → ℕ
 left_of most place = left_at most place.core.stage (length (so_far place.told))
 
 -- An attempt begins with this input.
@@ -73,7 +73,7 @@ SendsLower =
 
 -- So much is left at most, at whatever place.
 abbrev pub LeftAtMost : Type 0
-LeftAtMost = (most : ℕ) (place : Place) → left_of most place ≤ 2 * most + 7
+LeftAtMost = (most : ℕ) (place : SessionState) → left_of most place ≤ 2 * most + 7
 
 -- What begins an attempt sends nothing yet.
 abbrev pub BeginsSilent : Type 0

@@ -20,7 +20,7 @@ use Rattle.ncc_driver.specs.Requests.{shakes}
 use Rattle.ncc_driver.specs.Answers.{shake_of, message_of}
 use Rattle.ncc_driver.specs.declared.answers.Told.{Told}
 use Rattle.ncc_driver.specs.declared.answers.Told.TheVariants as m
-use Rattle.ncc_driver.specs.State.{Place, Turned, new_place}
+use Rattle.ncc_driver.specs.State.{SessionState, Turned, new_place}
 use Rattle.ncc_driver.specs.Attempts.{at_core, awaits, attempts, loses, behind}
 
 -- ---- what comes on a link: four bytes, then messages, and a message that is too long, behind which nothing is read
@@ -39,7 +39,7 @@ items_of came = if nat_lt (length came) 4 then [] else Shaken (take 4 came) ∷ 
 
 -- a session, and how many items of its link it took
 pub record Listening : Type 0 where
-  pub place : Place
+  pub place : SessionState
   pub taken : ℕ
 
 abbrev pub told_by : Asked → ℕ → List Row → Item → Told
@@ -73,7 +73,7 @@ takes config job now l (item ∷ items) facts = takes_by config job now l l.plac
 
 -- where a session stands, all that came on its link, and how many items of that it took
 pub record State : Type 0 where
-  pub place : Place
+  pub place : SessionState
   pub came : List ℕ
   pub taken : ℕ
 

@@ -13,13 +13,13 @@ use Rattle.ncc_driver.specs.declared.action.Action.{Action}
 use Rattle.ncc_driver.specs.Work.{Row}
 
 -- Where it stands, and the rows of each step of the attempt, from where its work was started.
-pub record Place : Type 0 where
+pub record SessionState : Type 0 where
   pub core : Core
   pub told : Option (List (List Row))
 
 -- what an input leads to: where the session stands then, and what it wants done
 pub record Turned : Type 0 where
-  pub place : Place
+  pub place : SessionState
   pub actions : List Action
 
 -- the words of a seed
@@ -42,17 +42,17 @@ new_core config = record {
   rows = [];
 }
 
-abbrev pub new_place : SessionConfig → Place
+abbrev pub new_place : SessionConfig → SessionState
 new_place config = record { core = new_core config; told = None }
 
 -- With any rows told so far: the core and the actions grew by this.
-abbrev pub Makes : (Place → Turned) → Core → Core → List Action → List Action → Type 0
+abbrev pub Makes : (SessionState → Turned) → Core → Core → List Action → List Action → Type 0
 Makes turn old new before after =
     (told : Option (List (List Row))) → let t = turn (record { core = old; told = told }) in
     (t.place ≡ record { core = new; told = told }) × (after ≡ before ++ t.actions)
 
 -- the same where the rows are forgotten
-abbrev pub MakesAnew : (Place → Turned) → Core → Core → List Action → List Action → Type 0
+abbrev pub MakesAnew : (SessionState → Turned) → Core → Core → List Action → List Action → Type 0
 MakesAnew turn old new before after =
     (told : Option (List (List Row))) → let t = turn (record { core = old; told = told }) in
     (t.place ≡ record { core = new; told = None }) × (after ≡ before ++ t.actions)
@@ -75,7 +75,7 @@ BehindAt _ stands told = Unit {0}
 
 -- the same as `Makes` where the work goes on with it
 abbrev pub MakesWith :
-    (List (List Row) → Type 0) → (List (List Row) → Type 0) → (Place → Turned) → Core → Core → List Action → List Action → Type 0
+    (List (List Row) → Type 0) → (List (List Row) → Type 0) → (SessionState → Turned) → Core → Core → List Action → List Action → Type 0
 MakesWith stood stands turn old new before after =
     (told : Option (List (List Row))) → BehindAt old.stage stood told → let t = turn (record { core = old; told = told }) in
     (t.place.core ≡ new) × (after ≡ before ++ t.actions) × BehindAt new.stage stands t.place.told

@@ -27,7 +27,7 @@ use Rattle.ncc_driver.specs.declared.link.Item.{Item}
 use Rattle.ncc_driver.specs.declared.work.WorkStep.{WorkStep}
 use Rattle.ncc_driver.specs.declared.work.WorkStep.TheVariants as w
 use Rattle.ncc_driver.specs.Work.{Job, rows_fit}
-use Rattle.ncc_driver.specs.State.{Place, Turned, new_core}
+use Rattle.ncc_driver.specs.State.{SessionState, Turned, new_core}
 use Rattle.ncc_driver.specs.Requests.{closes}
 use Rattle.ncc_driver.specs.Attempts.{before, retries, loses, fails, fails_by, is_spent, is_transient, is_no_leader, drops_table, joins}
 use Rattle.ncc_driver.specs.Attempts.{joins_server, joins_by, router_of, role_of, drawn, opened, attempts, at_core}
@@ -70,52 +70,52 @@ fine_if false t u f g = g
 closes_before : (t : Turned) → IsTurn t → IsTurn (before closes t)
 closes_before t f = record { rows = f.rows; does = both_fine closes t.actions (tt, (tt, tt)) f.does }
 
-fine_retries : (p : Place) (now : ℕ) (last : Last) → rows_fit p.core.rows ≡ true → IsTurn (retries p now last)
+fine_retries : (p : SessionState) (now : ℕ) (last : Last) → rows_fit p.core.rows ≡ true → IsTurn (retries p now last)
 fine_retries p now last h =
     fine_if (is_spent now p.core.began) _ _ (record { rows = h; does = (refl, tt) }) (record { rows = h; does = (tt, tt) })
 
-fine_loses : (p : Place) (now : ℕ) → rows_fit p.core.rows ≡ true → IsTurn (loses p now)
+fine_loses : (p : SessionState) (now : ℕ) → rows_fit p.core.rows ≡ true → IsTurn (loses p now)
 fine_loses p now h = fine_retries (drops_table p) now _ h
 
-fine_fails : (p : Place) (now : ℕ) (code : List ℕ) → rows_fit p.core.rows ≡ true → IsTurn (fails p now code)
+fine_fails : (p : SessionState) (now : ℕ) (code : List ℕ) → rows_fit p.core.rows ≡ true → IsTurn (fails p now code)
 fine_fails p now code h =
     closes_before (fails_by p now code) (fine_if (is_transient code) _ _ (fine_retries p now _ h)
     (fine_if (is_no_leader code) _ _ (fine_retries (drops_table p) now _ h) (record { rows = h; does = (refl, tt) })))
 
 -- ---- who is connected to
 
-fine_joins : (p : Place) (now : ℕ) (role : Role) (core : Core) (found : Option Value) → rows_fit core.rows ≡ true
+fine_joins : (p : SessionState) (now : ℕ) (role : Role) (core : Core) (found : Option Value) → rows_fit core.rows ≡ true
     → IsTurn (joins p now role core found)
 fine_joins p now role core (Some (v.Text address)) h = record { rows = h; does = (tt, tt) }
 fine_joins p now role core None h = fine_retries (drops_table (at_core p core)) now _ h
 fine_joins p now role core found h = fine_retries (drops_table (at_core p core)) now _ h
 
-fine_joins_by : (p : Place) (core : Core) (found : Option Value) → rows_fit core.rows ≡ true → IsTurn (joins_by p core found)
+fine_joins_by : (p : SessionState) (core : Core) (found : Option Value) → rows_fit core.rows ≡ true → IsTurn (joins_by p core found)
 fine_joins_by p core (Some (v.Text address)) h = record { rows = h; does = (tt, tt) }
 fine_joins_by p core found h = record { rows = h; does = tt }
 
-fine_server : (writes : Bool) (p : Place) (now : ℕ) → rows_fit p.core.rows ≡ true → IsTurn (joins_server writes p now)
+fine_server : (writes : Bool) (p : SessionState) (now : ℕ) → rows_fit p.core.rows ≡ true → IsTurn (joins_server writes p now)
 fine_server writes p now h = fine_joins p now (role_of writes) (drawn p.core) _ h
 
-fine_attempts : (config : SessionConfig) (writes : Bool) (p : Place) (now : ℕ) → IsTurn (attempts config writes p now)
+fine_attempts : (config : SessionConfig) (writes : Bool) (p : SessionState) (now : ℕ) → IsTurn (attempts config writes p now)
 fine_attempts config writes p now =
     fine_if (is_fresh now p.core.table) _ _ (fine_server writes (opened p) now no_rows)
     (fine_joins_by (opened p) _ (router_of config (opened p).core) no_rows)
 
 -- ---- what follows an answer
 
-fine_step : (p : Place) (step : WorkStep) → rows_fit p.core.rows ≡ true → IsTurn (takes_step p step)
+fine_step : (p : SessionState) (step : WorkStep) → rows_fit p.core.rows ≡ true → IsTurn (takes_step p step)
 fine_step p (w.Run query params) h = record { rows = h; does = (tt, (tt, tt)) }
 fine_step p w.Commit h = record { rows = h; does = (tt, (tt, tt)) }
 
-fine_steps : (job : Job) (p : Place) (told : List (List (List Value))) → rows_fit p.core.rows ≡ true → IsTurn (steps_on job p told)
+fine_steps : (job : Job) (p : SessionState) (told : List (List (List Value))) → rows_fit p.core.rows ≡ true → IsTurn (steps_on job p told)
 fine_steps job p told h = fine_step (record { core = p.core; told = Some told }) (job.steps told) h
 
-fine_hello : (writes : Bool) (p : Place) (leg : Leg) → rows_fit p.core.rows ≡ true → IsTurn (follows_hello writes p leg)
+fine_hello : (writes : Bool) (p : SessionState) (leg : Leg) → rows_fit p.core.rows ≡ true → IsTurn (follows_hello writes p leg)
 fine_hello writes p Routing h = record { rows = h; does = (tt, (tt, tt)) }
 fine_hello writes p Working h = record { rows = h; does = (tt, (tt, tt)) }
 
-fine_follows : (config : SessionConfig) (job : Job) (p : Place) (asked : Asked) → rows_fit p.core.rows ≡ true
+fine_follows : (config : SessionConfig) (job : Job) (p : SessionState) (asked : Asked) → rows_fit p.core.rows ≡ true
     → IsTurn (follows config job p asked)
 fine_follows config job p (a.Shake leg) h = record { rows = h; does = (tt, (tt, tt)) }
 fine_follows config job p (a.Hello leg) h = fine_hello job.writes p leg h
@@ -124,7 +124,7 @@ fine_follows config job p a.Run h = record { rows = no_rows; does = (tt, (tt, tt
 fine_follows config job p a.Pull h = fine_steps job p (so_far p.told ++ p.core.rows ∷ []) h
 fine_follows config job p asked h = record { rows = h; does = tt }
 
-fine_answer : (config : SessionConfig) (job : Job) (now : ℕ) (p : Place) (asked : Asked) (number : ℕ) (told : Told)
+fine_answer : (config : SessionConfig) (job : Job) (now : ℕ) (p : SessionState) (asked : Asked) (number : ℕ) (told : Told)
     → Own p.core.rows asked told → rows_fit p.core.rows ≡ true → IsTurn (behind config job now p asked number told)
 fine_answer config job now p asked number m.Done own h = fine_follows config job p asked h
 fine_answer config job now p asked number (m.Row fields) own h = record { rows = own; does = tt }

@@ -7,7 +7,7 @@ use Rattle.ncc_session.specs.declared.state.ConnState.{ConnState}
 use Rattle.ncc_session.specs.declared.state.ConnState.TheVariants.{Shaking, Ended}
 use Rattle.ncc_session.specs.declared.ask.Fact.{Fact}
 use Rattle.ncc_session.specs.Question.{Question}
-use Rattle.ncc_session.specs.Core.{Place}
+use Rattle.ncc_session.specs.Core.{Situation}
 use Rattle.ncc_session.specs.Session.{Standing, session, stream_of, is_ended, question_in}
 use Rattle.ncc_session.specs.Talk.{Talk, Stands, SaysIdle, Rests, RestsBy, asked}
 use Rattle.ncc_server.specs.declared.end.ConnEnd.TheVariants as end
@@ -36,10 +36,10 @@ module _ (talk : Talk) (shaken : talk.place.state ≡ Shaking → ⊥) (live : i
   core = ap (λ (s : Standing). s.core) k.went
 
   pub is_between : Rests (session config bytes facts).core bytes → IsBetween talk.place.state bytes
-  is_between h = record { shaken = shaken; between = here.0 (subst (λ (p : Place). Rests p bytes) core h) }
+  is_between h = record { shaken = shaken; between = here.0 (subst (λ (p : Situation). Rests p bytes) core h) }
 
   pub is_resting : IsBetween talk.place.state bytes → Rests (session config bytes facts).core bytes
-  is_resting b = subst (λ (p : Place). Rests p bytes) (sym core) (here.1 b.between)
+  is_resting b = subst (λ (p : Situation). Rests p bytes) (sym core) (here.1 b.between)
 
 pub over_idle : (talk : Talk) (answer : Bool) → SaysIdle talk answer → answer ≡ true → (talk.place.state ≡ Shaking → ⊥)
     → is_ended talk.place.state ≡ false → asked talk ≡ None → OverAs talk end.Closed

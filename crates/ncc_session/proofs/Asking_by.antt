@@ -11,7 +11,7 @@ use Rattle.ncc_session.specs.declared.state.ConnState.{ConnState}
 use Rattle.ncc_session.specs.declared.state.ConnState.TheVariants.{Ended}
 use Rattle.ncc_session.specs.declared.ask.Fact.{Fact}
 use Rattle.ncc_session.specs.Question.{Question, Output, wrote, asked, questions_of, fits}
-use Rattle.ncc_session.specs.Core.{Next, Doing, idle, opened, asks, Place}
+use Rattle.ncc_session.specs.Core.{Next, Doing, idle, opened, asks, Situation}
 use Rattle.ncc_session.specs.Turns.{Turned, freed, heard}
 use Rattle.ncc_session.specs.Session.{Input, Standing, inputs_of, stream_of, move, session, asked_at, question_in, is_ended}
 use Rattle.ncc_session.specs.Session.{on_input, reads, hears, acts, goes_by}
@@ -33,13 +33,13 @@ ended_none : (b : Bool) (o : Option Question) → b ≡ true → [] ≡ waiting 
 ended_none true o e = refl
 ended_none false o e = absurd (cc)
 
-input_asks : (config : ConnConfig) (p : Place) (s : ConnState) (x : Input) → p.state ≡ s → question_in p.doing ≡ None ⊎ (is_ended s ≡ true)
+input_asks : (config : ConnConfig) (p : Situation) (s : ConnState) (x : Input) → p.state ≡ s → question_in p.doing ≡ None ⊎ (is_ended s ≡ true)
     → Asks (on_input config p s x)
 input_asks config p (Ended stop) x e h = ended_none (is_ended p.state) _ (ap is_ended e)
 input_asks config p _ x e (inl h) = live_asks config p x (ap is_ended e) h
 input_asks config p _ x e (inr h) = absurd (cc)
 
-reads_ask : (config : ConnConfig) (p : Place) (xs : List Input) (fs : List Fact) (t : Standing) → question_in p.doing ≡ None ⊎ (is_ended p.state ≡ true)
+reads_ask : (config : ConnConfig) (p : Situation) (xs : List Input) (fs : List Fact) (t : Standing) → question_in p.doing ≡ None ⊎ (is_ended p.state ≡ true)
     → reads config p xs fs ≡ Some t → (questions_of t.written ≡ waiting (asked_at t.core)) × (t.facts ≡ fs)
 reads_ask config p [] fs t h e = absurd (cc)
 reads_ask config p (x ∷ xs) fs t h e =
@@ -53,7 +53,7 @@ hears_one : (b : Bool) (u t : Standing) → (if b then Some u else None) ≡ Som
 hears_one true u t e = same_some u t e
 hears_one false u t e = absurd (cc)
 
-hears_ask : (config : ConnConfig) (p : Place) (q : Question) (n : Next) (xs : List Input) (f : Fact) (fs : List Fact) (t : Standing)
+hears_ask : (config : ConnConfig) (p : Situation) (q : Question) (n : Next) (xs : List Input) (f : Fact) (fs : List Fact) (t : Standing)
     → is_ended p.state ≡ false → hears config p q n xs (f ∷ fs) ≡ Some t
     → (questions_of t.written ≡ waiting (asked_at t.core)) × (t.facts ≡ fs)
 hears_ask config p q n xs f fs t live e =
@@ -62,7 +62,7 @@ hears_ask config p q n xs f fs t live e =
     (heard_asks config (freed p) q n f live, refl)
 
 -- no fact is there, and none waits: it reads
-idle_acts : (config : ConnConfig) (p : Place) (d : Doing) (xs : List Input) (fs : List Fact) (t : Standing) → p.doing ≡ d → question_in d ≡ None
+idle_acts : (config : ConnConfig) (p : Situation) (d : Doing) (xs : List Input) (fs : List Fact) (t : Standing) → p.doing ≡ d → question_in d ≡ None
     → acts config p d xs fs ≡ Some t → (questions_of t.written ≡ waiting (asked_at t.core)) × (t.facts ≡ fs)
 idle_acts config p (asks q n) xs fs t is e h = absurd (cc)
 idle_acts config p idle xs fs t is e h = reads_ask config p xs fs t (inl (ap question_in is)) h
@@ -72,20 +72,20 @@ none_in : (b : Bool) (o : Option Question) → (if b then None else o) ≡ None 
 none_in false o e l = e
 none_in true o e l = absurd (cc)
 
-goes_ask : (config : ConnConfig) (p : Place) (s : ConnState) (xs : List Input) (fs : List Fact) (t : Standing) → p.state ≡ s → asked_at p ≡ None
+goes_ask : (config : ConnConfig) (p : Situation) (s : ConnState) (xs : List Input) (fs : List Fact) (t : Standing) → p.state ≡ s → asked_at p ≡ None
     → goes_by config p s xs fs ≡ Some t → (questions_of t.written ≡ waiting (asked_at t.core)) × (t.facts ≡ fs)
 goes_ask config p (Ended stop) xs fs t is none h = reads_ask config p xs fs t (inr (ap is_ended is)) h
 goes_ask config p _ xs fs t is none h =
     idle_acts config p p.doing xs fs t refl (none_in (is_ended p.state) _ none (ap is_ended is)) h
 
-move_asks : (config : ConnConfig) (p : Place) (xs : List Input) (fs : List Fact) (t : Standing) → asked_at p ≡ None
+move_asks : (config : ConnConfig) (p : Situation) (xs : List Input) (fs : List Fact) (t : Standing) → asked_at p ≡ None
     → move config p xs fs ≡ Some t → (questions_of t.written ≡ waiting (asked_at t.core)) × (t.facts ≡ fs)
 unfolding move
 move_asks config p xs fs t none h = goes_ask config p p.state xs fs t refl none h
 
 -- ---- where a question waits
 
-pub record Waits (p : Place) (q : Question) : Type 0 where
+pub record Waits (p : Situation) (q : Question) : Type 0 where
   pub next : Next
   pub live : is_ended p.state ≡ false
   pub doing : p.doing ≡ asks q next
@@ -99,24 +99,24 @@ some_in : (b : Bool) (o : Option Question) (q : Question) → (if b then None el
 some_in false o q e = (refl, e)
 some_in true o q e = absurd (cc)
 
-waits : (p : Place) (q : Question) → asked_at p ≡ Some q → Waits p q
+waits : (p : Situation) (q : Question) → asked_at p ≡ Some q → Waits p q
 waits p q e =
     let a = some_in (is_ended p.state) _ q e in
     let b = asks_by p.doing q a.1 in
     record { next = b.0; live = a.0; doing = b.1 }
 
-live_goes : (config : ConnConfig) (p : Place) (s : ConnState) (xs : List Input) (fs : List Fact) → is_ended s ≡ false
+live_goes : (config : ConnConfig) (p : Situation) (s : ConnState) (xs : List Input) (fs : List Fact) → is_ended s ≡ false
     → goes_by config p s xs fs ≡ acts config p p.doing xs fs
 live_goes config p (Ended stop) xs fs e = absurd (cc)
 live_goes config p _ xs fs e = refl
 
-waiting_move : (config : ConnConfig) (p : Place) (q : Question) (xs : List Input) (fs : List Fact) → (w : Waits p q)
+waiting_move : (config : ConnConfig) (p : Situation) (q : Question) (xs : List Input) (fs : List Fact) → (w : Waits p q)
     → move config p xs fs ≡ hears config p q w.next xs fs
 unfolding move
 waiting_move config p q xs fs w =
     live_goes config p p.state xs fs w.live ∙ ap (λ (d : Doing). acts config p d xs fs) w.doing
 
-stuck : (config : ConnConfig) (p : Place) (q : Question) (xs : List Input) → asked_at p ≡ Some q → move config p xs [] ≡ None
+stuck : (config : ConnConfig) (p : Situation) (q : Question) (xs : List Input) → asked_at p ≡ Some q → move config p xs [] ≡ None
 stuck config p q xs e = waiting_move config p q xs [] (waits p q e)
 
 -- ---- many moves without a fact
@@ -130,13 +130,13 @@ questions_join [] b = refl
 questions_join (wrote bytes ∷ a) b = questions_join a b
 questions_join (asked q ∷ a) b = ap (λ (qs : List Question). q ∷ qs) (questions_join a b)
 
-still_quiet : (p : Place) (xs : List Input) → asked_at p ≡ None → Quiet (still p xs [])
+still_quiet : (p : Situation) (xs : List Input) → asked_at p ≡ None → Quiet (still p xs [])
 still_quiet p xs e = record { asks = ap waiting (sym e); facts = refl }
 
 -- behind a move: where a question waits nothing moves any more
 behind_move : (config : ConnConfig) (n : ℕ) (t : Standing) (o : Option Question) → asked_at t.core ≡ o → t.facts ≡ []
     → questions_of t.written ≡ waiting (asked_at t.core)
-    → ((p : Place) (xs : List Input) → asked_at p ≡ None → Quiet (run (move config) n p xs []))
+    → ((p : Situation) (xs : List Input) → asked_at p ≡ None → Quiet (run (move config) n p xs []))
     → Quiet (behind t.written (run (move config) n t.core t.items t.facts))
 behind_move config n t (Some q) e f a ih =
     let none : move config t.core t.items t.facts ≡ None =
@@ -151,32 +151,32 @@ behind_move config n t None e f a ih =
     subst (λ (fs : List Fact). Quiet (behind t.written (run (move config) n t.core t.items fs))) (sym f)
     (record { asks = questions_join t.written r.written ∙ ap (λ (qs : List Question). qs ++ questions_of r.written) first ∙ k.asks; facts = k.facts })
 
-runs_step : (config : ConnConfig) (n : ℕ) (p : Place) (xs : List Input) (o : Option Standing) → move config p xs [] ≡ o → asked_at p ≡ None
-    → ((q : Place) (ys : List Input) → asked_at q ≡ None → Quiet (run (move config) n q ys [])) → Quiet (run (move config) (suc n) p xs [])
+runs_step : (config : ConnConfig) (n : ℕ) (p : Situation) (xs : List Input) (o : Option Standing) → move config p xs [] ≡ o → asked_at p ≡ None
+    → ((q : Situation) (ys : List Input) → asked_at q ≡ None → Quiet (run (move config) n q ys [])) → Quiet (run (move config) (suc n) p xs [])
 runs_step config n p xs None h e ih = subst Quiet (sym (at_none (move config) (suc n) p xs [] h)) (still_quiet p xs e)
 runs_step config n p xs (Some t) h e ih =
     let m = move_asks config p xs [] t e h in
     subst Quiet (sym (at_some (move config) n p xs [] t h)) (behind_move config n t (asked_at t.core) refl m.1 m.0 ih)
 
-runs_on : (config : ConnConfig) (n : ℕ) (p : Place) (xs : List Input) → asked_at p ≡ None → Quiet (run (move config) n p xs [])
+runs_on : (config : ConnConfig) (n : ℕ) (p : Situation) (xs : List Input) → asked_at p ≡ None → Quiet (run (move config) n p xs [])
 unfolding run
 runs_on config zero p xs e = still_quiet p xs e
 runs_on config (suc n) p xs e = runs_step config n p xs (move config p xs []) refl e (λ q ys k. runs_on config n q ys k)
 
-pub goes_quiet : (config : ConnConfig) (p : Place) (xs : List Input) → asked_at p ≡ None → Quiet (going (move config) p xs [])
+pub goes_quiet : (config : ConnConfig) (p : Situation) (xs : List Input) → asked_at p ≡ None → Quiet (going (move config) p xs [])
 unfolding going
 goes_quiet config p xs e = runs_on config _ p xs e
 
 -- ---- one fact
 
-some_hears : (config : ConnConfig) (p : Place) (q : Question) (n : Next) (xs : List Input) (f : Fact) → fits q f ≡ true
+some_hears : (config : ConnConfig) (p : Situation) (q : Question) (n : Next) (xs : List Input) (f : Fact) → fits q f ≡ true
     → hears config p q n xs (f ∷ []) ≡ Some (made (heard config (freed p) q n f) xs [])
 some_hears config p q n xs f e = ap (λ b. if b then Some (made (heard config (freed p) q n f) xs []) else None) e
 
 fuel : (m : ℕ) → m + 1 ≡ suc m
 fuel m = omega arith
 
-pub goes_told : (config : ConnConfig) (p : Place) (q : Question) (xs : List Input) (f : Fact) → asked_at p ≡ Some q → fits q f ≡ true
+pub goes_told : (config : ConnConfig) (p : Situation) (q : Question) (xs : List Input) (f : Fact) → asked_at p ≡ Some q → fits q f ≡ true
     → Quiet (going (move config) p xs (f ∷ []))
 unfolding going
 goes_told config p q xs f e k =

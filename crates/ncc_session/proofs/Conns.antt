@@ -5,7 +5,7 @@ use Rattle.ncc_stream.specs.Stream.{going}
 use Rattle.ncc_chunk.specs.Inflow.{Inflow, Stands as StandsFor}
 use Rattle.ncc_session.specs.declared.config.ConnConfig.{ConnConfig}
 use Rattle.ncc_session.specs.declared.ask.Fact.{Fact}
-use Rattle.ncc_session.specs.Core.{Place}
+use Rattle.ncc_session.specs.Core.{Situation}
 use Rattle.ncc_session.specs.Session.{Input, Standing, move, start, session, asked_at}
 use Rattle.ncc_session.specs.Talk.{Talk, talk_of, Stands, FeedBreaks, TellBreaks, HandsOut, Shows, asked}
 use Rattle.ncc_session.proofs.Moves.{stays}
@@ -50,7 +50,7 @@ pub shows_asked : (t : Talk) → Shows asked_at t (asked t)
 shows_asked t config bytes facts out k =
     ap (λ b. if b then None else asked_at t.place) k.fine ∙ ap (λ (s : Standing). asked_at s.core) (sym k.went)
 
-pub shows_state : (t : Talk) → Shows (λ (p : Place). p.state) t t.place.state
+pub shows_state : (t : Talk) → Shows (λ (p : Situation). p.state) t t.place.state
 shows_state t config bytes facts out k = ap (λ (s : Standing). s.core.state) (sym k.went)
 
 -- a spent connection stands for nothing

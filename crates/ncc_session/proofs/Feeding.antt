@@ -12,7 +12,7 @@ use Rattle.ncc_chunk.proofs.Shaking.{whole_where_more}
 use Rattle.ncc_session.specs.declared.config.ConnConfig.{ConnConfig}
 use Rattle.ncc_session.specs.declared.ask.Fact.{Fact}
 use Rattle.ncc_session.specs.Question.{Question, Output, bytes_of, fits}
-use Rattle.ncc_session.specs.Core.{Next, Doing, asks, Place}
+use Rattle.ncc_session.specs.Core.{Next, Doing, asks, Situation}
 use Rattle.ncc_session.specs.Turns.{freed, heard}
 use Rattle.ncc_session.specs.Took.{Took}
 use Rattle.ncc_session.specs.Session.{Input, Standing, on_shake, stream_of, move, session, is_ended, question_in, asked_at}
@@ -64,7 +64,7 @@ breaks_parts t u w n piece rest e f g =
 
 -- ---- the handshake
 
-pub shake_feeds : (config : ConnConfig) (p q : Place) (d : Inflow) (shake new piece taken a b : List ℕ) (answer : Shake)
+pub shake_feeds : (config : ConnConfig) (p q : Situation) (d : Inflow) (shake new piece taken a b : List ℕ) (answer : Shake)
     → answer_to shake ≡ More
     → new ≡ shake ++ taken → ((stream : List ℕ) → shake ≡ handshake_of stream → new ≡ handshake_of (stream ++ piece))
     → answer ≡ answer_to new → Took (on_shake p answer) a q b
@@ -83,7 +83,7 @@ shake_feeds config p q d shake new piece taken a b answer more is hand same took
     (subst (λ (s : List ℕ). Stands (talk_of false config p s d a) config bytes facts out) e k)))
 
 -- before the handshake is whole nothing was written
-pub shake_breaks : (config : ConnConfig) (p q : Place) (d e : Inflow) (shake new piece a b : List ℕ) → answer_to shake ≡ More
+pub shake_breaks : (config : ConnConfig) (p q : Situation) (d e : Inflow) (shake new piece a b : List ℕ) → answer_to shake ≡ More
     → b ≡ a → FeedBreaks (talk_of false config p shake d a) piece (talk_of true config q new e b)
 shake_breaks config p q d e shake new piece a b more same other bytes facts out k =
     let m : answer_to (handshake_of bytes) ≡ More = ap answer_to (sym k.shaken) ∙ more in
@@ -97,7 +97,7 @@ shake_breaks config p q d e shake new piece a b more same other bytes facts out 
     }
 
 -- behind a handshake that chose none more bytes change nothing
-pub refused_feeds : (config : ConnConfig) (p : Place) (d : Inflow) (shake new piece a : List ℕ) → new ≡ shake → answer_to shake ≢ More
+pub refused_feeds : (config : ConnConfig) (p : Situation) (d : Inflow) (shake new piece a : List ℕ) → new ≡ shake → answer_to shake ≢ More
     → answer_to shake ≢ Chosen → Feeds (talk_of false config p shake d a) piece (talk_of false config p new d a)
 refused_feeds config p d shake new piece a same n m =
     subst (λ (s : List ℕ). Feeds (talk_of false config p shake d a) piece (talk_of false config p s d a)) (sym same)
@@ -108,7 +108,7 @@ refused_feeds config p d shake new piece a same n m =
 
 -- ---- the stream of messages
 
-pub ended_feeds : (config : ConnConfig) (p : Place) (d : Inflow) (shake piece a : List ℕ) → is_ended p.state ≡ true
+pub ended_feeds : (config : ConnConfig) (p : Situation) (d : Inflow) (shake piece a : List ℕ) → is_ended p.state ≡ true
     → answer_to shake ≡ Chosen → Feeds (talk_of false config p shake d a) piece (talk_of false config p shake d a)
 ended_feeds config p d shake piece a e c =
     by_config (talk_of false config p shake d a)
@@ -116,7 +116,7 @@ ended_feeds config p d shake piece a e c =
     Stands (talk_of false config p shake d a) o (bytes ++ piece) facts out)
     (λ bytes facts out k. ended_stands config bytes piece shake facts out p d a e c k)
 
-pub settle_feeds : (config : ConnConfig) (p q : Place) (d e f : Inflow) (shake piece a b : List ℕ) → is_ended p.state ≡ false
+pub settle_feeds : (config : ConnConfig) (p q : Situation) (d e f : Inflow) (shake piece a b : List ℕ) → is_ended p.state ≡ false
     → answer_to shake ≡ Chosen → FeedsFlow d piece e → Settles config p e a q f b
     → Feeds (talk_of false config p shake d a) piece (talk_of false config q shake f b)
 settle_feeds config p q d e f shake piece a b live c feeds settles =
@@ -125,7 +125,7 @@ settle_feeds config p q d e f shake piece a b live c feeds settles =
     Stands (talk_of false config q shake f b) o (bytes ++ piece) facts out)
     (λ bytes facts out k. fed_stands config bytes piece shake facts out p q d e f a b live c feeds settles k)
 
-pub settle_breaks : (config : ConnConfig) (p q : Place) (d e f : Inflow) (shake piece a b : List ℕ) → is_ended p.state ≡ false
+pub settle_breaks : (config : ConnConfig) (p q : Situation) (d e f : Inflow) (shake piece a b : List ℕ) → is_ended p.state ≡ false
     → answer_to shake ≡ Chosen → FeedsFlow d piece e → SettleBreaks config p e a b
     → FeedBreaks (talk_of false config p shake d a) piece (talk_of true config q shake f b)
 settle_breaks config p q d e f shake piece a b live c feeds breaks =
@@ -135,7 +135,7 @@ settle_breaks config p q d e f shake piece a b live c feeds breaks =
     (λ bytes facts out k. fed_broke config bytes piece shake facts out p q d e f a b live c feeds breaks k)
 
 -- nothing of the piece was kept
-none_broke : (config : ConnConfig) (bytes piece shake : List ℕ) (facts : List Fact) (out : List ℕ) (p q : Place) (d f : Inflow)
+none_broke : (config : ConnConfig) (bytes piece shake : List ℕ) (facts : List Fact) (out : List ℕ) (p q : Situation) (d f : Inflow)
     (a : List ℕ) → answer_to shake ≡ Chosen → Stands (talk_of false config p shake d a) config bytes facts out
     → Broke (talk_of true config q shake f a) config (bytes ++ piece) facts out
 none_broke config bytes piece shake facts out p q d f a c k =
@@ -150,7 +150,7 @@ none_broke config bytes piece shake facts out p q d f a c k =
       out_is = k.out_is;
     }
 
-pub none_breaks : (config : ConnConfig) (p q : Place) (d f : Inflow) (shake piece a : List ℕ) → answer_to shake ≡ Chosen
+pub none_breaks : (config : ConnConfig) (p q : Situation) (d f : Inflow) (shake piece a : List ℕ) → answer_to shake ≡ Chosen
     → FeedBreaks (talk_of false config p shake d a) piece (talk_of true config q shake f a)
 none_breaks config p q d f shake piece a c =
     by_config (talk_of false config p shake d a)
@@ -166,7 +166,7 @@ live_fits : (ended : Bool) (o : Option Question) (fact : Fact) → fits_at (if e
 live_fits true o fact e = absurd (let f : false ≡ true = e in cc)
 live_fits false o fact e = (refl, e)
 
-pub may_tell : (p : Place) (q : Question) (n : Next) (fact : Fact) → p.doing ≡ asks q n → fits_at (asked_at p) fact ≡ true
+pub may_tell : (p : Situation) (q : Question) (n : Next) (fact : Fact) → p.doing ≡ asks q n → fits_at (asked_at p) fact ≡ true
     → (is_ended p.state ≡ false) × (fits q fact ≡ true)
 may_tell p q n fact e h =
     let l = live_fits (is_ended p.state) (question_in p.doing) fact h in
@@ -177,14 +177,14 @@ told_out v w out a b e h =
     bytes_join v w ∙ ap (λ (x : List ℕ). x ++ bytes_of w) e ∙ append_assoc out a (bytes_of w)
     ∙ ap (λ (x : List ℕ). out ++ x) (sym h)
 
-told_went : (config : ConnConfig) (s : Standing) (v w : List Output) (p r : Place) (left : List Input) → r ≡ p
+told_went : (config : ConnConfig) (s : Standing) (v w : List Output) (p r : Situation) (left : List Input) → r ≡ p
     → s ≡ behind v (behind w (going (move config) p left [])) → s ≡ behind (v ++ w) (going (move config) r left [])
 told_went config s v w p r left e h =
     h ∙ behind_twice v w (going (move config) p left [])
-    ∙ ap (λ (x : Place). behind (v ++ w) (going (move config) x left [])) (sym e)
+    ∙ ap (λ (x : Situation). behind (v ++ w) (going (move config) x left [])) (sym e)
 
 -- the fact was taken, and what came behind was handled
-told_stands : (config : ConnConfig) (bytes shake : List ℕ) (facts : List Fact) (out : List ℕ) (p r s : Place) (q : Question) (n : Next)
+told_stands : (config : ConnConfig) (bytes shake : List ℕ) (facts : List Fact) (out : List ℕ) (p r s : Situation) (q : Question) (n : Next)
     (fact : Fact) (d f : Inflow) (a b c : List ℕ) → is_ended p.state ≡ false → p.doing ≡ asks q n → fits q fact ≡ true
     → Took (heard config (freed p) q n fact) a r b → Settles config r d b s f c
     → Stands (talk_of false config p shake d a) config bytes facts out
@@ -198,7 +198,7 @@ told_stands config bytes shake facts out p r s q n fact d f a b c live doing fit
     (settles (stream_of bytes) x.0 x.1)
     (told_went config (session config bytes (facts ++ fact ∷ [])) k.written u.written u.place r left took.place_is x.2)
 
-told_broke : (config : ConnConfig) (bytes shake : List ℕ) (facts : List Fact) (out : List ℕ) (p r s : Place) (q : Question) (n : Next)
+told_broke : (config : ConnConfig) (bytes shake : List ℕ) (facts : List Fact) (out : List ℕ) (p r s : Situation) (q : Question) (n : Next)
     (fact : Fact) (d f : Inflow) (a b c : List ℕ) → is_ended p.state ≡ false → p.doing ≡ asks q n → fits q fact ≡ true
     → Took (heard config (freed p) q n fact) a r b → SettleBreaks config r d b c
     → Stands (talk_of false config p shake d a) config bytes facts out
@@ -213,7 +213,7 @@ told_broke config bytes shake facts out p r s q n fact d f a b c live doing fit 
     (told_went config (session config bytes (facts ++ fact ∷ [])) k.written u.written u.place r left took.place_is x.2)
 
 -- the fact was not taken
-untold_broke : (config : ConnConfig) (bytes shake : List ℕ) (facts : List Fact) (out : List ℕ) (p s : Place) (fact : Fact) (d f : Inflow)
+untold_broke : (config : ConnConfig) (bytes shake : List ℕ) (facts : List Fact) (out : List ℕ) (p s : Situation) (fact : Fact) (d f : Inflow)
     (a : List ℕ) → Stands (talk_of false config p shake d a) config bytes facts out
     → Broke (talk_of true config s shake f a) config bytes (facts ++ fact ∷ []) out
 untold_broke config bytes shake facts out p s fact d f a k = record {
@@ -224,7 +224,7 @@ untold_broke config bytes shake facts out p s fact d f a k = record {
   out_is = k.out_is;
 }
 
-pub tells_by : (config : ConnConfig) (p r s : Place) (q : Question) (n : Next) (fact : Fact) (d f : Inflow) (shake a b c : List ℕ)
+pub tells_by : (config : ConnConfig) (p r s : Situation) (q : Question) (n : Next) (fact : Fact) (d f : Inflow) (shake a b c : List ℕ)
     → p.doing ≡ asks q n → fits_at (asked_at p) fact ≡ true → Took (heard config (freed p) q n fact) a r b → Settles config r d b s f c
     → Tells (talk_of false config p shake d a) fact (talk_of false config s shake f c)
 tells_by config p r s q n fact d f shake a b c doing fit took settles =
@@ -234,7 +234,7 @@ tells_by config p r s q n fact d f shake a b c doing fit took settles =
     Stands (talk_of false config s shake f c) o bytes (facts ++ fact ∷ []) out)
     (λ bytes facts out k. told_stands config bytes shake facts out p r s q n fact d f a b c m.0 doing m.1 took settles k)
 
-pub tells_broke : (config : ConnConfig) (p r s : Place) (q : Question) (n : Next) (fact : Fact) (d f : Inflow) (shake a b c : List ℕ)
+pub tells_broke : (config : ConnConfig) (p r s : Situation) (q : Question) (n : Next) (fact : Fact) (d f : Inflow) (shake a b c : List ℕ)
     → p.doing ≡ asks q n → fits_at (asked_at p) fact ≡ true → Took (heard config (freed p) q n fact) a r b
     → SettleBreaks config r d b c → TellBreaks (talk_of false config p shake d a) fact (talk_of true config s shake f c)
 tells_broke config p r s q n fact d f shake a b c doing fit took breaks =
@@ -244,7 +244,7 @@ tells_broke config p r s q n fact d f shake a b c doing fit took breaks =
     Broke (talk_of true config s shake f c) o bytes (facts ++ fact ∷ []) out)
     (λ bytes facts out k. told_broke config bytes shake facts out p r s q n fact d f a b c m.0 doing m.1 took breaks k)
 
-pub untold_breaks : (config : ConnConfig) (p s : Place) (fact : Fact) (d f : Inflow) (shake a b : List ℕ) → b ≡ a
+pub untold_breaks : (config : ConnConfig) (p s : Situation) (fact : Fact) (d f : Inflow) (shake a b : List ℕ) → b ≡ a
     → TellBreaks (talk_of false config p shake d a) fact (talk_of true config s shake f b)
 untold_breaks config p s fact d f shake a b same =
     subst (λ (o : List ℕ). TellBreaks (talk_of false config p shake d a) fact (talk_of true config s shake f o)) (sym same)

@@ -10,7 +10,7 @@ use Rattle.ncc_session.specs.declared.state.ConnState.{ConnState}
 use Rattle.ncc_session.specs.declared.state.ConnState.TheVariants.{Ended}
 use Rattle.ncc_session.specs.declared.ask.Fact.{Fact}
 use Rattle.ncc_session.specs.Question.{Question, Output, fits}
-use Rattle.ncc_session.specs.Core.{Next, asks, Place}
+use Rattle.ncc_session.specs.Core.{Next, asks, Situation}
 use Rattle.ncc_session.specs.Turns.{freed, heard}
 use Rattle.ncc_session.specs.Session.{Input, Standing, stream_of, move, session, is_ended, goes_by}
 use Rattle.ncc_session.specs.Talk.{talk_of, inputs_behind, HasLeft, Stands, Broke}
@@ -32,7 +32,7 @@ ended_none (Ended stop) d stream e = refl
 ended_none _ d stream e = absurd (cc)
 
 -- after the end more bytes are dropped
-pub ended_stands : (config : ConnConfig) (bytes more shake : List ℕ) (facts : List Fact) (out : List ℕ) (p : Place) (d : Inflow)
+pub ended_stands : (config : ConnConfig) (bytes more shake : List ℕ) (facts : List Fact) (out : List ℕ) (p : Situation) (d : Inflow)
     (a : List ℕ)
     → is_ended p.state ≡ true → answer_to shake ≡ Chosen
     → Stands (talk_of false config p shake d a) config bytes facts out
@@ -60,14 +60,14 @@ live_left (Ended stop) d stream left e h = absurd (cc)
 live_left _ d stream left e h = h
 
 -- the session of a piece more, as far as it has inputs behind what the dechunker handed out
-pub record Further (config : ConnConfig) (bytes piece : List ℕ) (facts : List Fact) (p : Place) (d : Inflow)
+pub record Further (config : ConnConfig) (bytes piece : List ℕ) (facts : List Fact) (p : Situation) (d : Inflow)
     (w : List Output) : Type 0 where
   pub handed : List (List ℕ)
   pub stands : StandsFor d (stream_of (bytes ++ piece)) handed
   pub went : session config (bytes ++ piece) facts ≡ behind w
       (going (move config) p (inputs_behind (stream_of (bytes ++ piece)) (length handed)) [])
 
-pub further_by : (config : ConnConfig) (bytes piece shake : List ℕ) (facts : List Fact) (out : List ℕ) (p : Place) (d e : Inflow)
+pub further_by : (config : ConnConfig) (bytes piece shake : List ℕ) (facts : List Fact) (out : List ℕ) (p : Situation) (d e : Inflow)
     (a : List ℕ)
     → is_ended p.state ≡ false → answer_to shake ≡ Chosen → FeedsFlow d piece e
     → (k : Stands (talk_of false config p shake d a) config bytes facts out) → Further config bytes piece facts p e k.written
@@ -89,7 +89,7 @@ further_by config bytes piece shake facts out p d e a live c feeds k =
     }
 
 -- a piece of the stream, fed and handled
-pub fed_stands : (config : ConnConfig) (bytes piece shake : List ℕ) (facts : List Fact) (out : List ℕ) (p q : Place) (d e f : Inflow)
+pub fed_stands : (config : ConnConfig) (bytes piece shake : List ℕ) (facts : List Fact) (out : List ℕ) (p q : Situation) (d e f : Inflow)
     (a b : List ℕ) → is_ended p.state ≡ false → answer_to shake ≡ Chosen → FeedsFlow d piece e → Settles config p e a q f b
     → Stands (talk_of false config p shake d a) config bytes facts out
     → Stands (talk_of false config q shake f b) config (bytes ++ piece) facts out
@@ -100,7 +100,7 @@ fed_stands config bytes piece shake facts out p q d e f a b live c feeds settles
     (k.shaken ∙ sym (same_shake bytes piece (not_more shake bytes chosen))) k.out_is
     (settles (stream_of (bytes ++ piece)) x.handed x.stands) x.went
 
-pub fed_broke : (config : ConnConfig) (bytes piece shake : List ℕ) (facts : List Fact) (out : List ℕ) (p q : Place) (d e f : Inflow)
+pub fed_broke : (config : ConnConfig) (bytes piece shake : List ℕ) (facts : List Fact) (out : List ℕ) (p q : Situation) (d e f : Inflow)
     (a b : List ℕ) → is_ended p.state ≡ false → answer_to shake ≡ Chosen → FeedsFlow d piece e → SettleBreaks config p e a b
     → Stands (talk_of false config p shake d a) config bytes facts out
     → Broke (talk_of true config q shake f b) config (bytes ++ piece) facts out
@@ -110,13 +110,13 @@ fed_broke config bytes piece shake facts out p q d e f a b live c feeds breaks k
     k.out_is (breaks (stream_of (bytes ++ piece)) x.handed x.stands) x.went
 
 -- nothing more was written than before
-pub still_begun : (config : ConnConfig) (p : Place) (is : List Input) (a : List ℕ) → Begun config p is a a
+pub still_begun : (config : ConnConfig) (p : Situation) (is : List Input) (a : List ℕ) → Begun config p is a a
 still_begun config p is a =
     record { front = []; rest = (going (move config) p is []).written; begins = refl; out_is = sym (append-nil a) }
 
 -- ---- a fact
 
-hears_live : (config : ConnConfig) (p : Place) (s : ConnState) (q : Question) (n : Next) (is : List Input) (fact : Fact)
+hears_live : (config : ConnConfig) (p : Situation) (s : ConnState) (q : Question) (n : Next) (is : List Input) (fact : Fact)
     → is_ended s ≡ false → p.doing ≡ asks q n → fits q fact ≡ true
     → goes_by config p s is (fact ∷ []) ≡ Some (record {
       core = (heard config (freed p) q n fact).place;
@@ -128,7 +128,7 @@ hears_live config p (Ended stop) q n is fact e d f = absurd (cc)
 hears_live config p _ q n is fact e d f = rw (d, f) refl
 
 -- the session with one fact more, as far as it has inputs behind what the dechunker handed out
-pub told_goes : (config : ConnConfig) (bytes shake : List ℕ) (facts : List Fact) (out : List ℕ) (p : Place) (q : Question) (n : Next)
+pub told_goes : (config : ConnConfig) (bytes shake : List ℕ) (facts : List Fact) (out : List ℕ) (p : Situation) (q : Question) (n : Next)
     (fact : Fact)
     (d : Inflow) (a : List ℕ) → is_ended p.state ≡ false → p.doing ≡ asks q n → fits q fact ≡ true
     → (k : Stands (talk_of false config p shake d a) config bytes facts out)

@@ -26,7 +26,7 @@ use Rattle.ncc_session.specs.declared.checks.Entrance.{Entrance}
 use Rattle.ncc_session.specs.declared.table.Turn.{Turn}
 use Rattle.ncc_session.specs.declared.table.Turn.TheVariants as t
 use Rattle.ncc_session.specs.Question.{Question, enter, run, leave, route, Row, Output, wrote, asked, fits, questions_of}
-use Rattle.ncc_session.specs.Core.{Tx, Next, begins, runs, adds, leaves, routes, Doing, idle, opened, asks, Place}
+use Rattle.ncc_session.specs.Core.{Tx, Next, begins, runs, adds, leaves, routes, Doing, idle, opened, asks, Situation}
 use Rattle.ncc_session.specs.Checks.{Checked, entrance_of, need_of, checked_call, wish_of, is_welcome}
 use Rattle.ncc_session.specs.Table.{turn_of}
 use Rattle.ncc_session.specs.Turns.{Turned, fails, refusal_of, freed, records, pulled, may_leave, ends_tx, ends_result, goes_on, pulls_rows, pulls}
@@ -84,16 +84,16 @@ record Good (held : Option Held) (turn : Turned) : Type 0 where
   holds : Holds held turn.place.state turn.place.doing
   asking : questions_of turn.written ≡ pending turn.place.doing
 
-fails_well : (held : Option Held) (place : Place) (refusal : Refusal) → Good held (fails place refusal)
+fails_well : (held : Option Held) (place : Situation) (refusal : Refusal) → Good held (fails place refusal)
 fails_well held place refusal = record { holds = refl; asking = refl }
 
 -- ---- facts
 
-begin_well : (place : Place) (write : Bool) (fact : Fact) → Good (entered fact) (after_begin place write fact)
+begin_well : (place : Situation) (write : Bool) (fact : Fact) → Good (entered fact) (after_begin place write fact)
 begin_well place write (f.Entered at) = record { holds = refl; asking = refl }
 begin_well place write fact = fails_well None place (refusal_of fact)
 
-enter_well : (place : Place) (write : Bool) (call : Call) (fact : Fact) → is_ended place.state ≡ false
+enter_well : (place : Situation) (write : Bool) (call : Call) (fact : Fact) → is_ended place.state ≡ false
     → Good (entered fact) (after_enter place write call fact)
 enter_well place write call (f.Entered at) live = record {
   holds = record { live = live; follows = (call, refl); matches = refl };
@@ -101,7 +101,7 @@ enter_well place write call (f.Entered at) live = record {
 }
 enter_well place write call fact live = fails_well None place (refusal_of fact)
 
-rows_well : (held : Held) (place : Place) (calls : List Call) (tx : Tx) (rows : List Row) (at : ℕ) (large : Bool)
+rows_well : (held : Held) (place : Situation) (calls : List Call) (tx : Tx) (rows : List Row) (at : ℕ) (large : Bool)
     → nat_lt max_bytes (tx.kept + rows_len rows) ≡ large → tx.told ≡ held.told
     → Good (stepped held calls (f.Rows at rows)) (adds_rows place calls tx rows)
 rows_well held place calls tx rows at true e same = rw (e, adds_rows) (fails_well (stepped held calls (f.Rows at rows)) place u.TooLarge)
@@ -110,21 +110,21 @@ rows_well held place calls tx rows at false e same = rw (e, adds_rows) (record {
   asking = refl;
 })
 
-step_well : (held : Held) (place : Place) (calls : List Call) (tx : Tx) (fact : Fact) → tx.told ≡ held.told
+step_well : (held : Held) (place : Situation) (calls : List Call) (tx : Tx) (fact : Fact) → tx.told ≡ held.told
     → Good (stepped held calls fact) (after_step place calls tx fact)
 step_well held place calls tx (f.Rows at rows) same = rows_well held place calls tx rows at (nat_lt max_bytes (tx.kept + rows_len rows)) refl same
 step_well held place calls tx fact same = fails_well None place (refusal_of fact)
 
-end_well : (config : ConnConfig) (place : Place) (calls : List Call) (fact : Fact) → Good None (after_end config place calls fact)
+end_well : (config : ConnConfig) (place : Situation) (calls : List Call) (fact : Fact) → Good None (after_end config place calls fact)
 end_well config place calls (f.Done at) = record { holds = refl; asking = refl }
 end_well config place calls (f.Placed at) = record { holds = refl; asking = refl }
 end_well config place calls fact = fails_well None place (refusal_of fact)
 
-route_well : (config : ConnConfig) (place : Place) (fact : Fact) → Good None (after_route config place fact)
+route_well : (config : ConnConfig) (place : Situation) (fact : Fact) → Good None (after_route config place fact)
 route_well config place (f.Routed leader) = record { holds = refl; asking = refl }
 route_well config place fact = fails_well None place (refusal_of fact)
 
-heard_well : (config : ConnConfig) (place : Place) (held : Option Held) (question : Question) (next : Next) (fact : Fact)
+heard_well : (config : ConnConfig) (place : Situation) (held : Option Held) (question : Question) (next : Next) (fact : Fact)
     → is_ended place.state ≡ false → Matches held question next
     → Good (after held question fact) (heard config (freed place) question next fact)
 heard_well config place held (enter need) (begins write) fact live m = begin_well (freed place) write fact
@@ -141,7 +141,7 @@ replies_ask false rows more = refl
 replies_ask true [] more = refl
 replies_ask true (row ∷ rows) more = replies_ask true rows more
 
-ends_well : (place : Place) (tx : Tx) (may : Bool) → may_leave tx.steps tx.told ≡ may → is_ended place.state ≡ false
+ends_well : (place : Situation) (tx : Tx) (may : Bool) → may_leave tx.steps tx.told ≡ may → is_ended place.state ≡ false
     → Good (Some (held_of tx)) (ends_tx place tx)
 ends_well place tx false e live = rw (e, ends_tx) (fails_well (Some (held_of tx)) place u.TooLarge)
 ends_well place tx true e live = rw (e, ends_tx) (record {
@@ -149,17 +149,17 @@ ends_well place tx true e live = rw (e, ends_tx) (record {
   asking = refl;
 })
 
-result_well : (place : Place) (state : ConnState) (tx : Tx) (number : ℕ) → is_ended place.state ≡ false
+result_well : (place : Situation) (state : ConnState) (tx : Tx) (number : ℕ) → is_ended place.state ≡ false
     → Good (Some (held_of tx)) (ends_result place state tx number)
 result_well place Streaming tx number live = ends_well place tx (may_leave tx.steps tx.told) refl live
 result_well place _ tx number live = record { holds = refl; asking = refl }
 
-on_well : (place : Place) (tx : Tx) (number : ℕ) (more : Bool) → is_ended place.state ≡ false
+on_well : (place : Situation) (tx : Tx) (number : ℕ) (more : Bool) → is_ended place.state ≡ false
     → Good (Some (held_of tx)) (goes_on place tx number more)
 on_well place tx number true live = record { holds = refl; asking = refl }
 on_well place tx number false live = result_well place place.state tx number live
 
-rows_out_well : (place : Place) (tx : Tx) (keep : Bool) (wish : Wish) (rows : List Row) (more : Bool) → is_ended place.state ≡ false
+rows_out_well : (place : Situation) (tx : Tx) (keep : Bool) (wish : Wish) (rows : List Row) (more : Bool) → is_ended place.state ≡ false
     → Good (Some (held_of tx)) (pulls_rows place tx keep wish rows more)
 rows_out_well place tx keep wish rows more live =
     let after : Tx = pulled tx wish (length rows) more in
@@ -169,13 +169,13 @@ rows_out_well place tx keep wish rows more live =
       asking = replies_ask keep rows (goes_on place after wish.number more).written ∙ good.asking;
     }
 
-pulls_well : (place : Place) (tx : Tx) (keep : Bool) (extra : Pairs) (wish : Checked Wish) → wish_of tx.results extra ≡ wish
+pulls_well : (place : Situation) (tx : Tx) (keep : Bool) (extra : Pairs) (wish : Checked Wish) → wish_of tx.results extra ≡ wish
     → is_ended place.state ≡ false → Good (Some (held_of tx)) (pulls place tx keep extra)
 pulls_well place tx keep extra (Err refusal) e live = rw (e, pulls) (fails_well (Some (held_of tx)) place refusal)
 pulls_well place tx keep extra (Ok wish) e live =
     rw (e, pulls) (rows_out_well place tx keep wish (taken wish.count (left_in tx wish)) (are_left wish.count (left_in tx wish)) live)
 
-steps_well : (place : Place) (tx : Tx) (query : List ℕ) (params : Pairs) (call : Checked Call) → checked_step tx query params ≡ call
+steps_well : (place : Situation) (tx : Tx) (query : List ℕ) (params : Pairs) (call : Checked Call) → checked_step tx query params ≡ call
     → is_ended place.state ≡ false → Good (Some (held_of tx)) (runs_step place tx query params)
 steps_well place tx query params (Err refusal) e live = rw (e, runs_step) (fails_well (Some (held_of tx)) place refusal)
 steps_well place tx query params (Ok call) e live = rw (e, runs_step) (record {
@@ -183,7 +183,7 @@ steps_well place tx query params (Ok call) e live = rw (e, runs_step) (record {
   asking = refl;
 })
 
-entered_well : (held : Option Held) (place : Place) (query : List ℕ) (params : Pairs) (entrance : Entrance) (call : Checked Call)
+entered_well : (held : Option Held) (place : Situation) (query : List ℕ) (params : Pairs) (entrance : Entrance) (call : Checked Call)
     → checked_call entrance.write query params ≡ call → is_ended place.state ≡ false
     → Good held (runs_entered place query params entrance)
 entered_well held place query params entrance (Err refusal) e live = rw (e, runs_entered) (fails_well held place refusal)
@@ -192,14 +192,14 @@ entered_well held place query params entrance (Ok call) e live = rw (e, runs_ent
   asking = refl;
 })
 
-alone_well : (held : Option Held) (config : ConnConfig) (place : Place) (query : List ℕ) (params extra : Pairs)
+alone_well : (held : Option Held) (config : ConnConfig) (place : Situation) (query : List ℕ) (params extra : Pairs)
     (entrance : Checked Entrance) → entrance_of config.members.cluster extra ≡ entrance → is_ended place.state ≡ false
     → Good held (runs_alone config place query params extra)
 alone_well held config place query params extra (Err refusal) e live = rw (e, runs_alone) (fails_well held place refusal)
 alone_well held config place query params extra (Ok entrance) e live =
     rw (e, runs_alone) (entered_well held place query params entrance (checked_call entrance.write query params) refl live)
 
-begins_well : (held : Option Held) (config : ConnConfig) (place : Place) (extra : Pairs) (entrance : Checked Entrance)
+begins_well : (held : Option Held) (config : ConnConfig) (place : Situation) (extra : Pairs) (entrance : Checked Entrance)
     → entrance_of config.members.cluster extra ≡ entrance → is_ended place.state ≡ false → Good held (begins_one config place extra)
 begins_well held config place extra (Err refusal) e live = rw (e, begins_one) (fails_well held place refusal)
 begins_well held config place extra (Ok entrance) e live = rw (e, begins_one) (record {
@@ -207,7 +207,7 @@ begins_well held config place extra (Ok entrance) e live = rw (e, begins_one) (r
   asking = refl;
 })
 
-asks_well : (held : Option Held) (config : ConnConfig) (place : Place) (bookmarks : List Value) (extra : Pairs) (need : Checked ℕ)
+asks_well : (held : Option Held) (config : ConnConfig) (place : Situation) (bookmarks : List Value) (extra : Pairs) (need : Checked ℕ)
     → need_of config.members.cluster (Some (v.List bookmarks)) extra ≡ need → is_ended place.state ≡ false
     → Good held (asks_route config place bookmarks extra)
 asks_well held config place bookmarks extra (Err refusal) e live = rw (e, asks_route) (fails_well held place refusal)
@@ -216,13 +216,13 @@ asks_well held config place bookmarks extra (Ok need) e live = rw (e, asks_route
   asking = refl;
 })
 
-login_well : (held : Option Held) (config : ConnConfig) (place : Place) (extra : Pairs) (welcome : Bool)
+login_well : (held : Option Held) (config : ConnConfig) (place : Situation) (extra : Pairs) (welcome : Bool)
     → is_welcome config.auth extra ≡ welcome → Good held (logs_in config place extra)
 login_well held config place extra true e = rw (e, logs_in) (record { holds = refl; asking = refl })
 login_well held config place extra false e = rw (e, logs_in) (record { holds = refl; asking = refl })
 
 -- a turn that wants a transaction finds the one that is known
-opened_well : (config : ConnConfig) (place : Place) (tx : Tx) (turn : Turn) → is_ended place.state ≡ false → wants_tx turn ≡ true
+opened_well : (config : ConnConfig) (place : Situation) (tx : Tx) (turn : Turn) → is_ended place.state ≡ false → wants_tx turn ≡ true
     → place.doing ≡ opened tx → Good (Some (held_of tx)) (answered config place turn)
 opened_well config place tx (t.Rows extra keep) live wants is = rw (is, answered) (pulls_well (freed place) tx keep extra (wish_of tx.results extra) refl live)
 opened_well config place tx (t.Step query params) live wants is =
@@ -230,7 +230,7 @@ opened_well config place tx (t.Step query params) live wants is =
 opened_well config place tx t.Commit live wants is = rw (is, answered) (ends_well (freed place) tx (may_leave tx.steps tx.told) refl live)
 opened_well config place tx _ live wants is = absurd (cc)
 
-other_well : (held : Option Held) (config : ConnConfig) (place : Place) (turn : Turn) → is_ended place.state ≡ false
+other_well : (held : Option Held) (config : ConnConfig) (place : Situation) (turn : Turn) → is_ended place.state ≡ false
     → wants_tx turn ≡ false → Good held (answered config place turn)
 other_well held config place (t.Rows extra keep) live none = absurd (cc)
 other_well held config place (t.Step query params) live none = absurd (cc)
@@ -265,7 +265,7 @@ outside Ready (r.Route routing bookmarks extra) none = refl
 outside _ (r.Run query params extra) none = refl
 outside _ _ none = refl
 
-turn_well : (config : ConnConfig) (held : Option Held) (place : Place) (doing : Doing) (turn : Turn) (wants : Bool)
+turn_well : (config : ConnConfig) (held : Option Held) (place : Situation) (doing : Doing) (turn : Turn) (wants : Bool)
     → place.doing ≡ doing → wants_tx turn ≡ wants → Holds held place.state doing → pending doing ≡ [] → is_ended place.state ≡ false
     → (in_tx place.state ≡ false → wants_tx turn ≡ false) → Good held (answered config place turn)
 turn_well config held place doing turn false is w holds quiet live out = other_well held config place turn live w
@@ -276,7 +276,7 @@ turn_well config held place (asks question next) turn true is w holds quiet live
 
 -- ---- what comes in
 
-module _ (config : ConnConfig) (held : Option Held) (place : Place) (holds : Holds held place.state place.doing)
+module _ (config : ConnConfig) (held : Option Held) (place : Situation) (holds : Holds held place.state place.doing)
     (quiet : pending place.doing ≡ []) where
   message_well : (bytes : List ℕ) (read : Result Request MessageError) → request_at bytes ≡ read → is_ended place.state ≡ false
       → Good held (on_message config place bytes)
@@ -303,7 +303,7 @@ module _ (config : ConnConfig) (held : Option Held) (place : Place) (holds : Hol
 -- ---- one move
 
 -- what is known behind a move, and that with what comes later the questions are transactions
-record Goes (held : Option Held) (place : Place) (facts : List Fact) (to : Standing) : Type 0 where
+record Goes (held : Option Held) (place : Situation) (facts : List Fact) (to : Standing) : Type 0 where
   later : Option Held
   holds : Holds later to.core.state to.core.doing
   joins : (more : List Question) → AreTransactions later (pending to.core.doing ++ more) to.facts
@@ -315,7 +315,7 @@ made u xs fs = record { core = u.place; items = xs; facts = fs; written = u.writ
 same_some : (a b : Standing) → Some a ≡ Some b → a ≡ b
 same_some a b e = cc
 
-module _ (config : ConnConfig) (held : Option Held) (place : Place) (holds : Holds held place.state place.doing) where
+module _ (config : ConnConfig) (held : Option Held) (place : Situation) (holds : Holds held place.state place.doing) where
   read_goes : (inputs : List Input) (facts : List Fact) (to : Standing) → pending place.doing ≡ []
       → reads config place inputs facts ≡ Some to → Goes held place facts to
   read_goes [] facts to quiet e = absurd (cc)
@@ -388,9 +388,9 @@ rests held state (asks question next) [] h = (h.follows, refl)
 rests held state (asks question next) (fact ∷ facts) h = (h.follows, tt)
 
 module _ (config : ConnConfig) where
-  on_at : (n : ℕ) (held : Option Held) (place : Place) (inputs : List Input) (facts : List Fact) (o : Option Standing)
+  on_at : (n : ℕ) (held : Option Held) (place : Situation) (inputs : List Input) (facts : List Fact) (o : Option Standing)
       → move config place inputs facts ≡ o
-      → ((later : Option Held) (to : Place) (xs : List Input) (fs : List Fact) → Holds later to.state to.doing
+      → ((later : Option Held) (to : Situation) (xs : List Input) (fs : List Fact) → Holds later to.state to.doing
       → AreTransactions later (pending to.doing ++ questions_of (moves (move config) n to xs fs).written) fs)
       → Holds held place.state place.doing
       → AreTransactions held (pending place.doing ++ questions_of (moves (move config) (suc n) place inputs facts).written) facts
@@ -402,7 +402,7 @@ module _ (config : ConnConfig) where
       rw (at_some (move config) n place inputs facts to e, questions_join to.written rest)
       (g.joins (questions_of rest) (ih g.later to.core to.items to.facts g.holds))
 
-  on_by : (n : ℕ) (held : Option Held) (place : Place) (inputs : List Input) (facts : List Fact) → Holds held place.state place.doing
+  on_by : (n : ℕ) (held : Option Held) (place : Situation) (inputs : List Input) (facts : List Fact) → Holds held place.state place.doing
       → AreTransactions held (pending place.doing ++ questions_of (moves (move config) n place inputs facts).written) facts
   unfolding moves
   on_by zero held place inputs facts h = rests held place.state place.doing facts h

@@ -6,7 +6,7 @@ use Rattle.ncc_chunk.specs.Inflow.{Inflow}
 use Rattle.ncc_session.specs.declared.state.ConnState.{ConnState}
 use Rattle.ncc_session.specs.declared.state.ConnState.TheVariants.{Shaking, Ended}
 use Rattle.ncc_session.specs.Question.{Question}
-use Rattle.ncc_session.specs.Core.{Place}
+use Rattle.ncc_session.specs.Core.{Situation}
 use Rattle.ncc_session.specs.Session.{Input, Standing, stream_of, question_in}
 use Rattle.ncc_session.specs.Talk.{Talk, HasLeft, IdleBy, IdleAt, RestsBy, Rests, SaysIdle}
 
@@ -28,5 +28,5 @@ idle_by _ None shake d answer bytes left h e l = h (stream_of bytes) l.0 l.1
 
 pub says_idle : (t : Talk) (answer : Bool) → IdleAt t answer → SaysIdle t answer
 says_idle t answer h config bytes facts out k =
-    subst (λ (p : Place). IsTrue answer ↔ Rests p bytes) (ap (λ (s : Standing). s.core) (sym k.went))
+    subst (λ (p : Situation). IsTrue answer ↔ Rests p bytes) (ap (λ (s : Standing). s.core) (sym k.went))
     (idle_by t.place.state (question_in t.place.doing) t.shake t.inflow answer bytes k.left h k.shaken k.has_left)

@@ -7,7 +7,7 @@ use Rattle.ncc_session.specs.declared.state.ConnState.{ConnState}
 use Rattle.ncc_session.specs.declared.state.ConnState.TheVariants.{Ended}
 use Rattle.ncc_session.specs.declared.ask.Fact.{Fact}
 use Rattle.ncc_session.specs.Question.{Question, fits}
-use Rattle.ncc_session.specs.Core.{Next, Doing, idle, opened, asks, Place}
+use Rattle.ncc_session.specs.Core.{Next, Doing, idle, opened, asks, Situation}
 use Rattle.ncc_session.specs.Turns.{Turned, freed, heard}
 use Rattle.ncc_session.specs.Session.{Input, Standing, on_input, reads, hears, acts, goes_by, move}
 
@@ -22,7 +22,7 @@ made u xs fs = record { core = u.place; items = xs; facts = fs; written = u.writ
 same_some : (a b : Standing) → Some a ≡ Some b → a ≡ b
 same_some a b e = cc
 
-reads_owes : (config : ConnConfig) (p : Place) (xs : List Input) (fs : List Fact) (t : Standing) → reads config p xs fs ≡ Some t
+reads_owes : (config : ConnConfig) (p : Situation) (xs : List Input) (fs : List Fact) (t : Standing) → reads config p xs fs ≡ Some t
     → Owes (λ ys gs. reads config p (xs ++ ys) (fs ++ gs)) xs fs t
 reads_owes config p [] fs t e = absurd (cc)
 reads_owes config p (x ∷ xs) fs t e =
@@ -43,7 +43,7 @@ hears_by true u t next xs f fs e less same =
     record { shrinks = less; extends = λ ys gs. ap Some (same ys gs) } in
     subst (Owes (λ ys gs. Some (next ys gs)) xs (f ∷ fs)) is owed
 
-hears_owes : (config : ConnConfig) (p : Place) (q : Question) (n : Next) (xs : List Input) (fs : List Fact) (t : Standing)
+hears_owes : (config : ConnConfig) (p : Situation) (q : Question) (n : Next) (xs : List Input) (fs : List Fact) (t : Standing)
     → hears config p q n xs fs ≡ Some t → Owes (λ ys gs. hears config p q n (xs ++ ys) (fs ++ gs)) xs fs t
 hears_owes config p q n xs [] t e = absurd (cc)
 hears_owes config p q n xs (f ∷ fs) t e =
@@ -51,18 +51,18 @@ hears_owes config p q n xs (f ∷ fs) t e =
     hears_by (fits q f) u t (λ ys gs. made (heard config (freed p) q n f) (xs ++ ys) (fs ++ gs)) xs f fs e (omega arith)
     (λ ys gs. refl)
 
-acts_owes : (config : ConnConfig) (p : Place) (d : Doing) (xs : List Input) (fs : List Fact) (t : Standing)
+acts_owes : (config : ConnConfig) (p : Situation) (d : Doing) (xs : List Input) (fs : List Fact) (t : Standing)
     → acts config p d xs fs ≡ Some t → Owes (λ ys gs. acts config p d (xs ++ ys) (fs ++ gs)) xs fs t
 acts_owes config p (asks q n) xs fs t e = hears_owes config p q n xs fs t e
 acts_owes config p idle xs fs t e = reads_owes config p xs fs t e
 acts_owes config p (opened tx) xs fs t e = reads_owes config p xs fs t e
 
-goes_owes : (config : ConnConfig) (p : Place) (s : ConnState) (xs : List Input) (fs : List Fact) (t : Standing)
+goes_owes : (config : ConnConfig) (p : Situation) (s : ConnState) (xs : List Input) (fs : List Fact) (t : Standing)
     → goes_by config p s xs fs ≡ Some t → Owes (λ ys gs. goes_by config p s (xs ++ ys) (fs ++ gs)) xs fs t
 goes_owes config p (Ended stop) xs fs t e = reads_owes config p xs fs t e
 goes_owes config p _ xs fs t e = acts_owes config p p.doing xs fs t e
 
-move_owes : (config : ConnConfig) (p : Place) (xs : List Input) (fs : List Fact) (t : Standing) → move config p xs fs ≡ Some t
+move_owes : (config : ConnConfig) (p : Situation) (xs : List Input) (fs : List Fact) (t : Standing) → move config p xs fs ≡ Some t
     → Owes (λ ys gs. move config p (xs ++ ys) (fs ++ gs)) xs fs t
 unfolding move
 move_owes config p xs fs t e = goes_owes config p p.state xs fs t e

@@ -35,7 +35,7 @@ use Rattle.ncc_session.specs.Checks.{Checked, is_welcome}
 use Rattle.ncc_session.specs.Replies.{success, more_meta, hello_meta}
 use Rattle.ncc_store.specs.Rows.{rows_len, max_bytes}
 use Rattle.ncc_session.specs.Question.{Question, enter, run as run_asked, leave, route, fits}
-use Rattle.ncc_session.specs.Core.{Tx, Next, begins, runs, adds, leaves, routes, Doing, idle, opened, asks, Place}
+use Rattle.ncc_session.specs.Core.{Tx, Next, begins, runs, adds, leaves, routes, Doing, idle, opened, asks, Situation}
 use Rattle.ncc_session.specs.Table.{turn_of}
 use Rattle.ncc_session.specs.Turns.{Turned, freed, tx_in, puts, fails, ends_tx, ends_result, goes_on, pulls, pulls_wish, runs_entered}
 use Rattle.ncc_session.specs.Turns.{answered, tells_columns, streaming, tells_done, after_begin, after_enter, after_step}
@@ -138,39 +138,39 @@ by_if : (b : Bool) (x y : Turned) → IsCalm x → IsCalm y → IsCalm (if b the
 by_if true x y h k = h
 by_if false x y h k = k
 
-by_check : {A : Type 0} (place : Place) (r : Checked A) (go : A → Turned) → ((a : A) → IsCalm (go a))
+by_check : {A : Type 0} (place : Situation) (r : Checked A) (go : A → Turned) → ((a : A) → IsCalm (go a))
     → IsCalm (elim r [ Err refusal ↦ fails place refusal | Ok a ↦ go a ])
 by_check place (Err refusal) go h = tt
 by_check place (Ok a) go h = h a
 
-entered_calm : (p : Place) (query : List ℕ) (params : Pairs) (en : Entrance) → Calm p.state → IsCalm (runs_entered p query params en)
+entered_calm : (p : Situation) (query : List ℕ) (params : Pairs) (en : Entrance) → Calm p.state → IsCalm (runs_entered p query params en)
 entered_calm p query params en h = by_check p _ (λ call. puts p (enter en.need) (runs en.write call)) (λ call. h)
 
-leave_calm : (p : Place) (tx : Tx) → Calm p.state → IsCalm (ends_tx p tx)
+leave_calm : (p : Situation) (tx : Tx) → Calm p.state → IsCalm (ends_tx p tx)
 leave_calm p tx h = by_if (may_leave tx.steps tx.told) (puts p (leave tx.steps tx.told) leaves) (fails p r.TooLarge) h tt
 
 open_calm : (n : Bool) → Calm (if n then TxReady else TxStreaming)
 open_calm true = tt
 open_calm false = tt
 
-result_calm : (p : Place) (s : ConnState) (tx : Tx) (number : ℕ) → Calm p.state → IsCalm (ends_result p s tx number)
+result_calm : (p : Situation) (s : ConnState) (tx : Tx) (number : ℕ) → Calm p.state → IsCalm (ends_result p s tx number)
 result_calm p Streaming tx number h = leave_calm p tx h
 result_calm p _ tx number h = open_calm (tx.unended == 0)
 
-on_calm : (p : Place) (tx : Tx) (number : ℕ) (more : Bool) → Calm p.state → IsCalm (goes_on p tx number more)
+on_calm : (p : Situation) (tx : Tx) (number : ℕ) (more : Bool) → Calm p.state → IsCalm (goes_on p tx number more)
 on_calm p tx number more h =
     by_if more (goes p p.state (opened tx) (success more_meta ∷ [])) (ends_result p p.state tx number) h (result_calm p p.state tx number h)
 
-wish_calm : (p : Place) (tx : Tx) (keep : Bool) (wish : Wish) → Calm p.state → IsCalm (pulls_wish p tx keep wish)
+wish_calm : (p : Situation) (tx : Tx) (keep : Bool) (wish : Wish) → Calm p.state → IsCalm (pulls_wish p tx keep wish)
 wish_calm p tx keep wish h =
     let rows = taken wish.count (left_in tx wish) in
     let more = are_left wish.count (left_in tx wish) in
     on_calm p (pulled tx wish (length rows) more) wish.number more h
 
-pull_calm : (p : Place) (tx : Tx) (keep : Bool) (extra : Pairs) → Calm p.state → IsCalm (pulls p tx keep extra)
+pull_calm : (p : Situation) (tx : Tx) (keep : Bool) (extra : Pairs) → Calm p.state → IsCalm (pulls p tx keep extra)
 pull_calm p tx keep extra h = by_check p _ (λ wish. pulls_wish p tx keep wish) (λ wish. wish_calm p tx keep wish h)
 
-answered_calm : (config : ConnConfig) (p : Place) (turn : Turn) → Calm p.state → IsCalm (answered config p turn)
+answered_calm : (config : ConnConfig) (p : Situation) (turn : Turn) → Calm p.state → IsCalm (answered config p turn)
 answered_calm config p (t.Login extra) h =
     by_if (is_welcome config.auth extra) (rests p Ready (hello_meta config.conn)) (refuses p r.Unauthorized) tt tt
 answered_calm config p t.HelloExpected h = tt
@@ -193,55 +193,55 @@ streaming_calm : (s : ConnState) → Calm (streaming s)
 streaming_calm Ready = tt
 streaming_calm _ = tt
 
-begun_calm : (p : Place) (write : Bool) (fact : Fact) → IsCalm (after_begin p write fact)
+begun_calm : (p : Situation) (write : Bool) (fact : Fact) → IsCalm (after_begin p write fact)
 begun_calm p write (f.Entered at) = tt
 begun_calm p write _ = tt
 
-enter_calm : (p : Place) (write : Bool) (call : Call) (fact : Fact) → Calm p.state → IsCalm (after_enter p write call fact)
+enter_calm : (p : Situation) (write : Bool) (call : Call) (fact : Fact) → Calm p.state → IsCalm (after_enter p write call fact)
 enter_calm p write call (f.Entered at) h = h
 enter_calm p write call _ h = tt
 
-step_calm : (p : Place) (calls : List Call) (tx : Tx) (fact : Fact) → IsCalm (after_step p calls tx fact)
+step_calm : (p : Situation) (calls : List Call) (tx : Tx) (fact : Fact) → IsCalm (after_step p calls tx fact)
 step_calm p calls tx (f.Rows at rows) =
     by_if (nat_lt max_bytes (tx.kept + rows_len rows)) (fails p r.TooLarge) (tells_columns p (with_rows calls tx rows) (length tx.told)) tt
     (streaming_calm p.state)
 step_calm p calls tx _ = tt
 
-run_calm : (p : Place) (q : Question) (tx : Tx) (fact : Fact) → IsCalm (after_run p q tx fact)
+run_calm : (p : Situation) (q : Question) (tx : Tx) (fact : Fact) → IsCalm (after_run p q tx fact)
 run_calm p (run_asked calls) tx fact = step_calm p calls tx fact
 run_calm p _ tx fact = tt
 
-done_calm : (config : ConnConfig) (p : Place) (s : ConnState) (calls : List Call) (at : ℕ) → IsCalm (tells_done config p s calls at)
+done_calm : (config : ConnConfig) (p : Situation) (s : ConnState) (calls : List Call) (at : ℕ) → IsCalm (tells_done config p s calls at)
 done_calm config p Streaming calls at = tt
 done_calm config p _ calls at = tt
 
-end_calm : (config : ConnConfig) (p : Place) (calls : List Call) (fact : Fact) → IsCalm (after_end config p calls fact)
+end_calm : (config : ConnConfig) (p : Situation) (calls : List Call) (fact : Fact) → IsCalm (after_end config p calls fact)
 end_calm config p calls (f.Done at) = done_calm config p p.state calls at
 end_calm config p calls (f.Placed at) = done_calm config p p.state calls at
 end_calm config p calls _ = tt
 
-left_calm : (config : ConnConfig) (p : Place) (q : Question) (fact : Fact) → IsCalm (after_leave config p q fact)
+left_calm : (config : ConnConfig) (p : Situation) (q : Question) (fact : Fact) → IsCalm (after_leave config p q fact)
 left_calm config p (leave calls told) fact = end_calm config p calls fact
 left_calm config p _ fact = tt
 
-route_calm : (config : ConnConfig) (p : Place) (fact : Fact) → IsCalm (after_route config p fact)
+route_calm : (config : ConnConfig) (p : Situation) (fact : Fact) → IsCalm (after_route config p fact)
 route_calm config p (f.Routed leader) = tt
 route_calm config p _ = tt
 
-heard_calm : (config : ConnConfig) (p : Place) (q : Question) (n : Next) (fact : Fact) → Calm p.state → IsCalm (heard config p q n fact)
+heard_calm : (config : ConnConfig) (p : Situation) (q : Question) (n : Next) (fact : Fact) → Calm p.state → IsCalm (heard config p q n fact)
 heard_calm config p q (begins write) fact h = begun_calm p write fact
 heard_calm config p q (runs write call) fact h = enter_calm p write call fact h
 heard_calm config p q (adds tx) fact h = run_calm p q tx fact
 heard_calm config p q leaves fact h = left_calm config p q fact
 heard_calm config p q routes fact h = route_calm config p fact
 
-shake_calm : (p : Place) (shake : Shake) → Calm p.state → IsCalm (on_shake p shake)
+shake_calm : (p : Situation) (shake : Shake) → Calm p.state → IsCalm (on_shake p shake)
 shake_calm p Chosen h = tt
 shake_calm p NoVersion h = tt
 shake_calm p BadMagic h = tt
 shake_calm p More h = h
 
-message_by : (config : ConnConfig) (p : Place) (bytes : List ℕ) (r : Result Request MessageError) → Never r → Calm p.state
+message_by : (config : ConnConfig) (p : Situation) (bytes : List ℕ) (r : Result Request MessageError) → Never r → Calm p.state
     → IsCalm (elim r [
       | Ok request ↦ answered config (counted p) (turn_of p.state request)
       | Err cause ↦ ends p (stop.Malformed p.number (fault_at (length bytes) cause) cause) []
@@ -249,45 +249,45 @@ message_by : (config : ConnConfig) (p : Place) (bytes : List ℕ) (r : Result Re
 message_by config p bytes (Ok request) n h = answered_calm config (counted p) (turn_of p.state request) h
 message_by config p bytes (Err cause) n h = λ i. n (ap Err i)
 
-live_calm : (config : ConnConfig) (p : Place) (i : Input) → Calm p.state → IsCalm (on_live config p i)
+live_calm : (config : ConnConfig) (p : Situation) (i : Input) → Calm p.state → IsCalm (on_live config p i)
 live_calm config p (shaken shake) h = shake_calm p shake h
 live_calm config p (message bytes) h = message_by config p bytes (request_at bytes) (request_never bytes) h
 live_calm config p too_long h = tt
 
-input_calm : (config : ConnConfig) (p : Place) (s : ConnState) (i : Input) → Calm p.state → IsCalm (on_input config p s i)
+input_calm : (config : ConnConfig) (p : Situation) (s : ConnState) (i : Input) → Calm p.state → IsCalm (on_input config p s i)
 input_calm config p (Ended why) i h = h
 input_calm config p _ i h = live_calm config p i h
 
-reads_calm : (config : ConnConfig) (p : Place) (xs : List Input) (fs : List Fact) (s : Standing) → reads config p xs fs ≡ Some s
+reads_calm : (config : ConnConfig) (p : Situation) (xs : List Input) (fs : List Fact) (s : Standing) → reads config p xs fs ≡ Some s
     → Calm p.state → Calm s.core.state
 reads_calm config p [] fs s i h = absurd (cc)
 reads_calm config p (x ∷ xs) fs s i h =
     let is : (on_input config p p.state x).place ≡ s.core = cc in
-    subst (λ (q : Place). Calm q.state) is (input_calm config p p.state x h)
+    subst (λ (q : Situation). Calm q.state) is (input_calm config p p.state x h)
 
 hears_by : (b : Bool) (u s : Standing) → (if b then Some u else None) ≡ Some s → Calm u.core.state → Calm s.core.state
 hears_by false u s i h = absurd (cc)
 hears_by true u s i h = let is : u ≡ s = cc in subst (λ (r : Standing). Calm r.core.state) is h
 
-hears_calm : (config : ConnConfig) (p : Place) (q : Question) (n : Next) (xs : List Input) (fs : List Fact) (s : Standing)
+hears_calm : (config : ConnConfig) (p : Situation) (q : Question) (n : Next) (xs : List Input) (fs : List Fact) (s : Standing)
     → hears config p q n xs fs ≡ Some s → Calm p.state → Calm s.core.state
 hears_calm config p q n xs [] s i h = absurd (cc)
 hears_calm config p q n xs (x ∷ fs) s i h =
     let u = heard config (freed p) q n x in
     hears_by (fits q x) (record { core = u.place; items = xs; facts = fs; written = u.written }) s i (heard_calm config (freed p) q n x h)
 
-acts_calm : (config : ConnConfig) (p : Place) (d : Doing) (xs : List Input) (fs : List Fact) (s : Standing)
+acts_calm : (config : ConnConfig) (p : Situation) (d : Doing) (xs : List Input) (fs : List Fact) (s : Standing)
     → acts config p d xs fs ≡ Some s → Calm p.state → Calm s.core.state
 acts_calm config p (asks q n) xs fs s i h = hears_calm config p q n xs fs s i h
 acts_calm config p idle xs fs s i h = reads_calm config p xs fs s i h
 acts_calm config p (opened tx) xs fs s i h = reads_calm config p xs fs s i h
 
-goes_calm : (config : ConnConfig) (p : Place) (state : ConnState) (xs : List Input) (fs : List Fact) (s : Standing)
+goes_calm : (config : ConnConfig) (p : Situation) (state : ConnState) (xs : List Input) (fs : List Fact) (s : Standing)
     → goes_by config p state xs fs ≡ Some s → Calm p.state → Calm s.core.state
 goes_calm config p (Ended why) xs fs s i h = reads_calm config p xs fs s i h
 goes_calm config p _ xs fs s i h = acts_calm config p p.doing xs fs s i h
 
-move_calm : (config : ConnConfig) (p : Place) (xs : List Input) (fs : List Fact) (s : Standing) → move config p xs fs ≡ Some s
+move_calm : (config : ConnConfig) (p : Situation) (xs : List Input) (fs : List Fact) (s : Standing) → move config p xs fs ≡ Some s
     → Calm p.state → Calm s.core.state
 unfolding move
 move_calm config p xs fs s i h = goes_calm config p p.state xs fs s i h
@@ -295,7 +295,7 @@ move_calm config p xs fs s i h = goes_calm config p p.state xs fs s i h
 session_calm : (config : ConnConfig) (bytes : List ℕ) (facts : List Fact) → Calm (session config bytes facts).core.state
 unfolding session
 session_calm config bytes facts =
-    keeps (move config) (λ (p : Place). Calm p.state) (λ p xs fs s i h. move_calm config p xs fs s i h) start (inputs_of bytes) facts tt
+    keeps (move config) (λ (p : Situation). Calm p.state) (λ p xs fs s i h. move_calm config p xs fs s i h) start (inputs_of bytes) facts tt
 
 pub never_memory : (config : ConnConfig) (bytes : List ℕ) (facts : List Fact) (why : ConnStop)
     → (session config bytes facts).core.state ≡ Ended why → NeverMemory why

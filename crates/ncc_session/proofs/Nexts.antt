@@ -6,7 +6,7 @@ use Rattle.ncc_chunk.specs.Inflow.{Inflow, Stands as StandsFor, HandsOut as Hand
 use Rattle.ncc_session.specs.declared.config.ConnConfig.{ConnConfig}
 use Rattle.ncc_session.specs.declared.state.ConnState.TheVariants.{Ended}
 use Rattle.ncc_session.specs.declared.state.ConnStop.TheVariants.{MessageTooLong}
-use Rattle.ncc_session.specs.Core.{idle, Place}
+use Rattle.ncc_session.specs.Core.{idle, Situation}
 use Rattle.ncc_session.specs.Took.{Took}
 use Rattle.ncc_session.specs.Session.{Input, message, too_long, on_message, on_live}
 use Rattle.ncc_session.specs.Talk.{inputs_behind}
@@ -14,7 +14,7 @@ use Rattle.ncc_session.specs.Steps.{may_read, Went, Nexts}
 use Rattle.ncc_session.proofs.Inputs.{behind_next, behind_end, behind_long}
 use Rattle.ncc_session.proofs.Moves.{went_by, went_not, stays, drops_all}
 
-pub nexts_message : (config : ConnConfig) (p q : Place) (d e : Inflow) (m n a b : List ℕ) → may_read p ≡ true → HandsOn d m e → n ≡ m
+pub nexts_message : (config : ConnConfig) (p q : Situation) (d e : Inflow) (m n a b : List ℕ) → may_read p ≡ true → HandsOn d m e → n ≡ m
     → Took (on_message config p n) a q b → Nexts config p d a q e b true
 nexts_message config p q d e m n a b r hands same took stream handed k =
     let next = hands stream handed k in
@@ -28,7 +28,7 @@ nexts_message config p q d e m n a b r hands same took stream handed k =
       still = λ f. absurd (cc);
     }
 
-pub nexts_again : (config : ConnConfig) (p : Place) (d e : Inflow) (a : List ℕ) → e ≡ d
+pub nexts_again : (config : ConnConfig) (p : Situation) (d e : Inflow) (a : List ℕ) → e ≡ d
     → ((stream : List ℕ) (handed : List (List ℕ)) → StandsFor d stream handed → EndsAfter stream handed)
     → Nexts config p d a p e a false
 nexts_again config p d e a same ends stream handed k = record {
@@ -39,13 +39,13 @@ nexts_again config p d e a same ends stream handed k = record {
 }
 
 -- where the connection stands behind a message that is too long
-abbrev pub stopped : Place → Place
+abbrev pub stopped : Situation → Situation
 stopped p = record { state = Ended (MessageTooLong p.number); number = p.number; doing = idle }
 
-long_took : (config : ConnConfig) (p : Place) (a : List ℕ) → Took (on_live config p too_long) a (stopped p) a
+long_took : (config : ConnConfig) (p : Situation) (a : List ℕ) → Took (on_live config p too_long) a (stopped p) a
 long_took config p a = record { place_is = refl; out_is = sym (append-nil a) }
 
-long_went : (config : ConnConfig) (p : Place) (a : List ℕ) → may_read p ≡ true
+long_went : (config : ConnConfig) (p : Situation) (a : List ℕ) → may_read p ≡ true
     → Went config p (too_long ∷ []) a (stopped p) (too_long ∷ []) a
 long_went config p a r =
     let w = went_by config p (stopped p) too_long [] a a r (long_took config p a) in
@@ -55,7 +55,7 @@ long_went config p a r =
       out_is = w.out_is;
     }
 
-pub nexts_long : (config : ConnConfig) (p : Place) (d e : Inflow) (a : List ℕ) → may_read p ≡ true → e ≡ d
+pub nexts_long : (config : ConnConfig) (p : Situation) (d e : Inflow) (a : List ℕ) → may_read p ≡ true → e ≡ d
     → ((stream : List ℕ) (handed : List (List ℕ)) → StandsFor d stream handed → IsTooLongAfter stream handed)
     → Nexts config p d a (stopped p) e a false
 nexts_long config p d e a r same long stream handed k = record {

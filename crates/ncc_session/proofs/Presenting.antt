@@ -18,7 +18,7 @@ use Rattle.ncc_session.specs.declared.checks.Entrance.{Entrance}
 use Rattle.ncc_session.specs.declared.table.Turn.{Turn}
 use Rattle.ncc_session.specs.declared.table.Turn.TheVariants as t
 use Rattle.ncc_session.specs.Question.{Question, enter, run, leave, route, Row, questions_of}
-use Rattle.ncc_session.specs.Core.{Tx, Place}
+use Rattle.ncc_session.specs.Core.{Tx, Situation}
 use Rattle.ncc_session.specs.Checks.{Checked, and_then, under, mode_of, bookmarks_of, database_of, user_of, few, place_in, greatest_in, need_of}
 use Rattle.ncc_session.specs.Checks.{entrance_of, checked_call, wish_of, is_welcome}
 use Rattle.ncc_session.specs.Table.{turn_of}
@@ -101,43 +101,43 @@ NotEnter questions = (need : ℕ) → questions ≡ enter need ∷ [] → ⊥
 none_asked : NotEnter []
 none_asked need e = absurd (cc)
 
-leaves_not : (place : Place) (tx : Tx) (may : Bool) → may_leave tx.steps tx.told ≡ may → NotEnter (questions_of (ends_tx place tx).written)
+leaves_not : (place : Situation) (tx : Tx) (may : Bool) → may_leave tx.steps tx.told ≡ may → NotEnter (questions_of (ends_tx place tx).written)
 leaves_not place tx false e need = rw (e, ends_tx) (none_asked need)
 leaves_not place tx true e need = rw (e, ends_tx) (λ (h : leave tx.steps tx.told ∷ [] ≡ enter need ∷ []). absurd (cc))
 
-result_not : (place : Place) (state : ConnState) (tx : Tx) (number : ℕ) → NotEnter (questions_of (ends_result place state tx number).written)
+result_not : (place : Situation) (state : ConnState) (tx : Tx) (number : ℕ) → NotEnter (questions_of (ends_result place state tx number).written)
 result_not place Streaming tx number need = leaves_not place tx (may_leave tx.steps tx.told) refl need
 result_not place _ tx number need = none_asked need
 
-on_not : (place : Place) (tx : Tx) (number : ℕ) (more : Bool) → NotEnter (questions_of (goes_on place tx number more).written)
+on_not : (place : Situation) (tx : Tx) (number : ℕ) (more : Bool) → NotEnter (questions_of (goes_on place tx number more).written)
 on_not place tx number true need = none_asked need
 on_not place tx number false need = result_not place place.state tx number need
 
-rows_not : (place : Place) (tx : Tx) (keep : Bool) (wish : Wish) (rows : List Row) (more : Bool)
+rows_not : (place : Situation) (tx : Tx) (keep : Bool) (wish : Wish) (rows : List Row) (more : Bool)
     → NotEnter (questions_of (pulls_rows place tx keep wish rows more).written)
 rows_not place tx keep wish rows more need e =
     let after : Tx = pulled tx wish (length rows) more in
     on_not place after wish.number more need (sym (replies_ask keep rows (goes_on place after wish.number more).written) ∙ e)
 
-pulls_not : (place : Place) (tx : Tx) (keep : Bool) (extra : Pairs) (wish : Checked Wish) → wish_of tx.results extra ≡ wish
+pulls_not : (place : Situation) (tx : Tx) (keep : Bool) (extra : Pairs) (wish : Checked Wish) → wish_of tx.results extra ≡ wish
     → NotEnter (questions_of (pulls place tx keep extra).written)
 pulls_not place tx keep extra (Err refusal) e need = rw (e, pulls) (none_asked need)
 pulls_not place tx keep extra (Ok wish) e need =
     rw (e, pulls) (rows_not place tx keep wish (taken wish.count (left_in tx wish)) (are_left wish.count (left_in tx wish)) need)
 
-step_not : (place : Place) (tx : Tx) (query : List ℕ) (params : Pairs) (call : Checked Call) → checked_step tx query params ≡ call
+step_not : (place : Situation) (tx : Tx) (query : List ℕ) (params : Pairs) (call : Checked Call) → checked_step tx query params ≡ call
     → NotEnter (questions_of (runs_step place tx query params).written)
 step_not place tx query params (Err refusal) e need = rw (e, runs_step) (none_asked need)
 step_not place tx query params (Ok call) e need =
     rw (e, runs_step) (λ (h : run (tx.steps ++ call ∷ []) ∷ [] ≡ enter need ∷ []). absurd (cc))
 
-route_not : (config : ConnConfig) (place : Place) (bookmarks : List Value) (extra : Pairs) (need : Checked ℕ)
+route_not : (config : ConnConfig) (place : Situation) (bookmarks : List Value) (extra : Pairs) (need : Checked ℕ)
     → need_of config.members.cluster (Some (v.List bookmarks)) extra ≡ need
     → NotEnter (questions_of (asks_route config place bookmarks extra).written)
 route_not config place bookmarks extra (Err refusal) e need = rw (e, asks_route) (none_asked need)
 route_not config place bookmarks extra (Ok at) e need = rw (e, asks_route) (λ (h : route ∷ [] ≡ enter need ∷ []). absurd (cc))
 
-login_not : (config : ConnConfig) (place : Place) (extra : Pairs) (welcome : Bool) → is_welcome config.auth extra ≡ welcome
+login_not : (config : ConnConfig) (place : Situation) (extra : Pairs) (welcome : Bool) → is_welcome config.auth extra ≡ welcome
     → NotEnter (questions_of (logs_in config place extra).written)
 login_not config place extra true e need = rw (e, logs_in) (none_asked need)
 login_not config place extra false e need = rw (e, logs_in) (none_asked need)
@@ -150,7 +150,7 @@ Needs cluster extra need = (places : List ℕ) × Presents cluster extra places 
 same_need : (a b : ℕ) → enter a ∷ [] ≡ enter b ∷ [] → a ≡ b
 same_need a b e = cc
 
-entered_needs : (cluster : ℕ) (place : Place) (query : List ℕ) (params extra : Pairs) (entrance : Entrance) (call : Checked Call) (need : ℕ)
+entered_needs : (cluster : ℕ) (place : Situation) (query : List ℕ) (params extra : Pairs) (entrance : Entrance) (call : Checked Call) (need : ℕ)
     → checked_call entrance.write query params ≡ call → entrance_of cluster extra ≡ Ok entrance
     → questions_of (runs_entered place query params entrance).written ≡ enter need ∷ [] → Needs cluster extra need
 entered_needs cluster place query params extra entrance (Err refusal) need e en h = absurd (none_asked need (rw (e, runs_entered) at h))
@@ -158,7 +158,7 @@ entered_needs cluster place query params extra entrance (Ok call) need e en h =
     let is : entrance.need ≡ need = same_need entrance.need need (rw (e, runs_entered) at h) in
     subst (Needs cluster extra) is (entrance_is cluster extra entrance en)
 
-alone_needs : (config : ConnConfig) (place : Place) (query : List ℕ) (params extra : Pairs) (entrance : Checked Entrance) (need : ℕ)
+alone_needs : (config : ConnConfig) (place : Situation) (query : List ℕ) (params extra : Pairs) (entrance : Checked Entrance) (need : ℕ)
     → entrance_of config.members.cluster extra ≡ entrance
     → questions_of (runs_alone config place query params extra).written ≡ enter need ∷ [] → Needs config.members.cluster extra need
 alone_needs config place query params extra (Err refusal) need e h = absurd (none_asked need (rw (e, runs_alone) at h))
@@ -166,7 +166,7 @@ alone_needs config place query params extra (Ok entrance) need e h =
     entered_needs config.members.cluster place query params extra entrance (checked_call entrance.write query params) need refl e
     (rw (e, runs_alone) at h)
 
-begin_needs : (config : ConnConfig) (place : Place) (extra : Pairs) (entrance : Checked Entrance) (need : ℕ)
+begin_needs : (config : ConnConfig) (place : Situation) (extra : Pairs) (entrance : Checked Entrance) (need : ℕ)
     → entrance_of config.members.cluster extra ≡ entrance
     → questions_of (begins_one config place extra).written ≡ enter need ∷ [] → Needs config.members.cluster extra need
 begin_needs config place extra (Err refusal) need e h = absurd (none_asked need (rw (e, begins_one) at h))
@@ -174,7 +174,7 @@ begin_needs config place extra (Ok entrance) need e h =
     let is : entrance.need ≡ need = same_need entrance.need need (rw (e, begins_one) at h) in
     subst (Needs config.members.cluster extra) is (entrance_is config.members.cluster extra entrance e)
 
-turn_needs : (config : ConnConfig) (place : Place) (turn : Turn) (need : ℕ)
+turn_needs : (config : ConnConfig) (place : Situation) (turn : Turn) (need : ℕ)
     → questions_of (answered config place turn).written ≡ enter need ∷ []
     → (extra : Pairs) × (beginning turn ≡ Some extra) × Needs config.members.cluster extra need
 turn_needs config place (t.Run query params extra) need h = (extra, refl, alone_needs config place query params extra (entrance_of config.members.cluster extra) need refl h)
@@ -192,7 +192,7 @@ turn_needs config place t.Ignore need h = absurd (none_asked need h)
 turn_needs config place t.Rollback need h = absurd (none_asked need h)
 turn_needs config place t.OutOfPlace need h = absurd (none_asked need h)
 
-message_needs : (config : ConnConfig) (place : Place) (message : List ℕ) (need : ℕ) (read : Result Request MessageError)
+message_needs : (config : ConnConfig) (place : Situation) (message : List ℕ) (need : ℕ) (read : Result Request MessageError)
     → request_at message ≡ read → questions_of (on_message config place message).written ≡ enter need ∷ []
     → (places : List ℕ) × Begins config place message places × IsGreatest need places
 message_needs config place message need (Err cause) e h = absurd (none_asked need (rw (e, on_message) at h))
@@ -203,7 +203,7 @@ message_needs config place message need (Ok request) e h =
       n.2.2,
     )
 
-pub needs_the_greatest : (config : ConnConfig) (place : Place) (message : List ℕ) (need : ℕ)
+pub needs_the_greatest : (config : ConnConfig) (place : Situation) (message : List ℕ) (need : ℕ)
     → questions_of (on_message config place message).written ≡ enter need ∷ []
     → (places : List ℕ) × Begins config place message places × IsGreatest need places
 needs_the_greatest config place message need h = message_needs config place message need (request_at message) refl h

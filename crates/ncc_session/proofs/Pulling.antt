@@ -5,12 +5,12 @@ use Rattle.std.proofs.lemmas.List.{take_at}
 use Rattle.ncc_pack.specs.Writing.{Begins}
 use Rattle.ncc_session.specs.declared.checks.Wish.{Wish}
 use Rattle.ncc_session.specs.Question.{Row, bytes_of}
-use Rattle.ncc_session.specs.Core.{Tx, Place}
+use Rattle.ncc_session.specs.Core.{Tx, Situation}
 use Rattle.ncc_session.specs.Took.{Took}
 use Rattle.ncc_session.specs.Turns.{rows_at, left_in, taken, are_left, pulled, records, goes_on, pulls_rows, pulls_wish}
 use Rattle.ncc_session.proofs.Shares.{outputs_join}
 
-module _ (place to : Place) (tx after : Tx) (keep : Bool) (wish : Wish) (left rows : List Row) (more : Bool) (before between out : List ℕ)
+module _ (place to : Situation) (tx after : Tx) (keep : Bool) (wish : Wish) (left rows : List Row) (more : Bool) (before between out : List ℕ)
     (left_is : left ≡ rows_at tx.told wish.number wish.next) (rows_are : rows ≡ taken wish.count left)
     (more_is : more ≡ are_left wish.count left) (behind : between ≡ before ++ bytes_of (records keep rows))
     (noted : after ≡ pulled tx wish (length rows) more) where

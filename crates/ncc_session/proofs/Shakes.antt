@@ -12,7 +12,7 @@ use Rattle.ncc_session.specs.declared.state.ConnState.{ConnState}
 use Rattle.ncc_session.specs.declared.state.ConnState.TheVariants.{Ended}
 use Rattle.ncc_session.specs.declared.ask.Fact.{Fact}
 use Rattle.ncc_session.specs.Question.{Output, bytes_of}
-use Rattle.ncc_session.specs.Core.{Place}
+use Rattle.ncc_session.specs.Core.{Situation}
 use Rattle.ncc_session.specs.Took.{Took}
 use Rattle.ncc_session.specs.Session.{Input, Standing, shaken_as, on_shake, inputs_of, stream_of, stream_inputs, move, start, session}
 use Rattle.ncc_session.specs.Talk.{talk_of, HasLeft, Stands}
@@ -26,13 +26,13 @@ unfolding move
 start_waits config facts = refl
 
 -- with no input the session is at its start, and took no fact
-pub record AtStart (facts : List Fact) (p : Place) (left : List Input) (w : List Output) : Type 0 where
+pub record AtStart (facts : List Fact) (p : Situation) (left : List Input) (w : List Output) : Type 0 where
   pub place : p ≡ start
   pub none : left ≡ []
   pub untold : facts ≡ []
   pub quiet : w ≡ []
 
-pub at_start : (config : ConnConfig) (bytes : List ℕ) (facts : List Fact) (p : Place) (left : List Input) (w : List Output)
+pub at_start : (config : ConnConfig) (bytes : List ℕ) (facts : List Fact) (p : Situation) (left : List Input) (w : List Output)
     → inputs_of bytes ≡ [] → session config bytes facts ≡ record { core = p; items = left; facts = []; written = w }
     → AtStart facts p left w
 unfolding session
@@ -100,13 +100,13 @@ none_left : (s : ConnState) (d : Inflow) (handed : List (List ℕ)) → StandsFo
 none_left (Ended stop) d handed k = refl
 none_left _ d handed k = (handed, k, sym (drop_none (length handed)))
 
-shaking_holds : (p : Place) (d : Inflow) (stream : List ℕ) (left : List Input) → p ≡ start → stream ≡ [] → HasLeft p.state d stream left
+shaking_holds : (p : Situation) (d : Inflow) (stream : List ℕ) (left : List Input) → p ≡ start → stream ≡ [] → HasLeft p.state d stream left
     → (handed : List (List ℕ)) × StandsFor d [] handed
 shaking_holds p d stream left e s h =
-    let k : HasLeft start.state d stream left = subst (λ (x : Place). HasLeft x.state d stream left) e h in
+    let k : HasLeft start.state d stream left = subst (λ (x : Situation). HasLeft x.state d stream left) e h in
     (k.0, subst (λ (x : List ℕ). StandsFor d x k.0) s k.1)
 
-pub shake_stands : (config : ConnConfig) (bytes taken new : List ℕ) (facts : List Fact) (out : List ℕ) (p q : Place) (d : Inflow)
+pub shake_stands : (config : ConnConfig) (bytes taken new : List ℕ) (facts : List Fact) (out : List ℕ) (p q : Situation) (d : Inflow)
     (a b : List ℕ)
     → answer_to (handshake_of bytes) ≡ More → Shook bytes taken → new ≡ bytes ++ taken
     → Took (on_shake p (answer_to new)) a q b
@@ -118,8 +118,8 @@ shake_stands config bytes taken new facts out p q d a b e h n t k =
     let at = at_start config bytes facts p k.left k.written none.1 k.went in
     let answer = answer_to new in
     let turn = on_shake start answer in
-    let place : q ≡ turn.place = t.place_is ∙ ap (λ (x : Place). (on_shake x answer).place) at.place in
-    let wrote : b ≡ a ++ bytes_of turn.written = t.out_is ∙ ap (λ (x : Place). a ++ bytes_of (on_shake x answer).written) at.place in
+    let place : q ≡ turn.place = t.place_is ∙ ap (λ (x : Situation). (on_shake x answer).place) at.place in
+    let wrote : b ≡ a ++ bytes_of turn.written = t.out_is ∙ ap (λ (x : Situation). a ++ bytes_of (on_shake x answer).written) at.place in
     let held = shaking_holds p d (stream_of bytes) k.left at.place none.0 k.has_left in
     let nothing : [] ≡ out ++ a = ap bytes_of (sym at.quiet) ∙ k.out_is in
     record {
@@ -132,13 +132,13 @@ shake_stands config bytes taken new facts out p q d a b e h n t k =
       went = ap (λ (is : List Input). going (move config) start is facts) (h.inputs ∙ ap (λ (v : List ℕ). shaken_as (answer_to v)) (sym n))
           ∙ ap (λ (fs : List Fact). going (move config) start (shaken_as answer) fs) at.untold
           ∙ shake_goes config answer
-          ∙ ap (λ (x : Place). record { core = x; items = []; facts = []; written = turn.written }) (sym place);
+          ∙ ap (λ (x : Situation). record { core = x; items = []; facts = []; written = turn.written }) (sym place);
       out_is = ap (λ (v : List ℕ). v ++ bytes_of turn.written) nothing ∙ append_assoc out a (bytes_of turn.written)
           ∙ ap (λ (v : List ℕ). out ++ v) (sym wrote);
     }
 
 -- behind a handshake that chose none, and behind the end, more bytes change nothing
-pub refused_stands : (config : ConnConfig) (bytes more shake : List ℕ) (facts : List Fact) (out : List ℕ) (p : Place) (d : Inflow)
+pub refused_stands : (config : ConnConfig) (bytes more shake : List ℕ) (facts : List Fact) (out : List ℕ) (p : Situation) (d : Inflow)
     (a : List ℕ)
     → answer_to shake ≢ More → answer_to shake ≢ Chosen
     → Stands (talk_of false config p shake d a) config bytes facts out

@@ -10,7 +10,7 @@ use Rattle.ncc_session.specs.declared.state.ConnState.{ConnState}
 use Rattle.ncc_session.specs.declared.state.ConnState.TheVariants.{Ended}
 use Rattle.ncc_session.specs.declared.ask.Fact.{Fact}
 use Rattle.ncc_session.specs.Question.{Output, bytes_of}
-use Rattle.ncc_session.specs.Core.{Place}
+use Rattle.ncc_session.specs.Core.{Situation}
 use Rattle.ncc_session.specs.Session.{Input, Standing, inputs_of, stream_of, move, start, session, is_ended}
 use Rattle.ncc_session.specs.Talk.{talk_of, inputs_behind, HasLeft, Stands, Broke}
 use Rattle.ncc_session.specs.Steps.{Gone, Begun}
@@ -18,7 +18,7 @@ use Rattle.ncc_session.proofs.Lawful.{lawful}
 use Rattle.ncc_session.proofs.Moves.{rests_at, bytes_join}
 
 -- the session of more bytes goes on from where it stood
-pub session_on : (config : ConnConfig) (bytes more : List ℕ) (facts : List Fact) (later left : List Input) (p : Place) (w : List Output)
+pub session_on : (config : ConnConfig) (bytes more : List ℕ) (facts : List Fact) (later left : List Input) (p : Situation) (w : List Output)
     → inputs_of (bytes ++ more) ≡ inputs_of bytes ++ later
     → session config bytes facts ≡ record { core = p; items = left; facts = []; written = w }
     → session config (bytes ++ more) facts ≡ behind w (going (move config) p (left ++ later) [])
@@ -30,7 +30,7 @@ session_on config bytes more facts later left p w e s =
     ∙ ap (λ (r : Standing). going_on (move config) r later []) s
 
 -- and of one more fact
-pub session_told : (config : ConnConfig) (bytes : List ℕ) (facts : List Fact) (fact : Fact) (left : List Input) (p : Place)
+pub session_told : (config : ConnConfig) (bytes : List ℕ) (facts : List Fact) (fact : Fact) (left : List Input) (p : Situation)
     (w : List Output)
     → session config bytes facts ≡ record { core = p; items = left; facts = []; written = w }
     → session config bytes (facts ++ fact ∷ []) ≡ behind w (going (move config) p left (fact ∷ []))
@@ -46,13 +46,13 @@ has_left_by : (s : ConnState) (d : Inflow) (stream : List ℕ) (later : List (Li
 has_left_by (Ended stop) d stream later kept k none all = none refl
 has_left_by _ d stream later kept k none all = (later, k, all refl)
 
-pub written_nil : (p : Place) (kept : List Input) (w : List Output)
-    → behind w (still {C = Place} {E = Input} {F = Fact} {W = Output} p kept [])
+pub written_nil : (p : Situation) (kept : List Input) (w : List Output)
+    → behind w (still {C = Situation} {E = Input} {F = Fact} {W = Output} p kept [])
     ≡ record { core = p; items = kept; facts = []; written = w }
 written_nil p kept w = ap (λ (x : List Output). record { core = p; items = kept; facts = []; written = x }) (append-nil w)
 
 -- what a connection stands for behind some steps
-pub stands_by : (config : ConnConfig) (p q : Place) (shake : List ℕ) (d : Inflow) (bytes out a b : List ℕ) (facts : List Fact)
+pub stands_by : (config : ConnConfig) (p q : Situation) (shake : List ℕ) (d : Inflow) (bytes out a b : List ℕ) (facts : List Fact)
     (handed : List (List ℕ)) (w : List Output) → shake ≡ handshake_of bytes
     → bytes_of w ≡ out ++ a
     → (g : Gone config p a q d b (stream_of bytes) handed false)
@@ -75,7 +75,7 @@ stands_by config p q shake d bytes out a b facts handed w shaken o g s =
     }
 
 -- what a connection that found no memory has written
-pub broke_by : (config : ConnConfig) (p q : Place) (shake : List ℕ) (d : Inflow) (bytes out a b : List ℕ) (facts : List Fact)
+pub broke_by : (config : ConnConfig) (p q : Situation) (shake : List ℕ) (d : Inflow) (bytes out a b : List ℕ) (facts : List Fact)
     (is : List Input) (w : List Output) → bytes_of w ≡ out ++ a → Begun config p is a b
     → session config bytes facts ≡ behind w (going (move config) p is [])
     → Broke (talk_of true config q shake d b) config bytes facts out

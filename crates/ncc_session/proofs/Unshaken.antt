@@ -25,7 +25,7 @@ use Rattle.ncc_session.specs.declared.checks.Wish.{Wish}
 use Rattle.ncc_session.specs.declared.checks.Entrance.{Entrance}
 use Rattle.ncc_session.specs.Checks.{Checked, entrance_of, need_of, checked_call, wish_of, is_welcome}
 use Rattle.ncc_session.specs.Question.{Question, run, leave, fits}
-use Rattle.ncc_session.specs.Core.{Tx, Next, begins, runs, adds, leaves, routes, Doing, idle, opened, asks, Place}
+use Rattle.ncc_session.specs.Core.{Tx, Next, begins, runs, adds, leaves, routes, Doing, idle, opened, asks, Situation}
 use Rattle.ncc_session.specs.Table.{turn_of}
 use Rattle.ncc_session.specs.Turns.{Turned, freed, may_leave, tx_in, ends_tx, ends_result, goes_on, pulls, pulled, taken}
 use Rattle.ncc_session.specs.Turns.{left_in, are_left, runs_entered, runs_alone, begins_one, asks_route, checked_step, runs_step, answered}
@@ -54,49 +54,49 @@ either_turn false x y h k = k
 
 -- ---- requests
 
-entered_whole : (p : Place) (query : List ℕ) (params : Pairs) (e : Entrance) (r : Checked Call) → checked_call e.write query params ≡ r
+entered_whole : (p : Situation) (query : List ℕ) (params : Pairs) (e : Entrance) (r : Checked Call) → checked_call e.write query params ≡ r
     → IsWhole p.state → IsWhole (runs_entered p query params e).place.state
 entered_whole p query params e (Err refusal) h w = rw (h, IsWhole) tt
 entered_whole p query params e (Ok call) h w = rw (h, IsWhole) w
 
-alone_whole : (config : ConnConfig) (p : Place) (query : List ℕ) (params extra : Pairs) (r : Checked Entrance)
+alone_whole : (config : ConnConfig) (p : Situation) (query : List ℕ) (params extra : Pairs) (r : Checked Entrance)
     → entrance_of config.members.cluster extra ≡ r → IsWhole p.state → IsWhole (runs_alone config p query params extra).place.state
 alone_whole config p query params extra (Err refusal) h w = rw (h, IsWhole) tt
 alone_whole config p query params extra (Ok e) h w =
     rw (h, IsWhole) (entered_whole p query params e (checked_call e.write query params) refl w)
 
-begins_whole : (config : ConnConfig) (p : Place) (extra : Pairs) (r : Checked Entrance) → entrance_of config.members.cluster extra ≡ r
+begins_whole : (config : ConnConfig) (p : Situation) (extra : Pairs) (r : Checked Entrance) → entrance_of config.members.cluster extra ≡ r
     → IsWhole p.state → IsWhole (begins_one config p extra).place.state
 begins_whole config p extra (Err refusal) h w = rw (h, IsWhole) tt
 begins_whole config p extra (Ok e) h w = rw (h, IsWhole) w
 
-route_whole : (config : ConnConfig) (p : Place) (bookmarks : List Value) (extra : Pairs) (r : Checked ℕ)
+route_whole : (config : ConnConfig) (p : Situation) (bookmarks : List Value) (extra : Pairs) (r : Checked ℕ)
     → need_of config.members.cluster (Some (v.List bookmarks)) extra ≡ r → IsWhole p.state
     → IsWhole (asks_route config p bookmarks extra).place.state
 route_whole config p bookmarks extra (Err refusal) h w = rw (h, IsWhole) tt
 route_whole config p bookmarks extra (Ok need) h w = rw (h, IsWhole) w
 
-step_whole : (p : Place) (tx : Tx) (query : List ℕ) (params : Pairs) (r : Checked Call) → checked_step tx query params ≡ r
+step_whole : (p : Situation) (tx : Tx) (query : List ℕ) (params : Pairs) (r : Checked Call) → checked_step tx query params ≡ r
     → IsWhole p.state → IsWhole (runs_step p tx query params).place.state
 step_whole p tx query params (Err refusal) h w = rw (h, IsWhole) tt
 step_whole p tx query params (Ok call) h w = rw (h, IsWhole) w
 
-ends_by : (p : Place) (tx : Tx) (b : Bool) → may_leave tx.steps tx.told ≡ b → IsWhole p.state → IsWhole (ends_tx p tx).place.state
+ends_by : (p : Situation) (tx : Tx) (b : Bool) → may_leave tx.steps tx.told ≡ b → IsWhole p.state → IsWhole (ends_tx p tx).place.state
 ends_by p tx true h w = rw (h, IsWhole) w
 ends_by p tx false h w = rw (h, IsWhole) tt
 
-ends_whole : (p : Place) (tx : Tx) → IsWhole p.state → IsWhole (ends_tx p tx).place.state
+ends_whole : (p : Situation) (tx : Tx) → IsWhole p.state → IsWhole (ends_tx p tx).place.state
 ends_whole p tx w = ends_by p tx (may_leave tx.steps tx.told) refl w
 
-result_whole : (p : Place) (s : ConnState) (tx : Tx) (number : ℕ) → IsWhole p.state → IsWhole (ends_result p s tx number).place.state
+result_whole : (p : Situation) (s : ConnState) (tx : Tx) (number : ℕ) → IsWhole p.state → IsWhole (ends_result p s tx number).place.state
 result_whole p Streaming tx number w = ends_whole p tx w
 result_whole p _ tx number w = either (tx.unended == 0) TxReady TxStreaming tt tt
 
-goes_on_whole : (p : Place) (tx : Tx) (number : ℕ) (more : Bool) → IsWhole p.state → IsWhole (goes_on p tx number more).place.state
+goes_on_whole : (p : Situation) (tx : Tx) (number : ℕ) (more : Bool) → IsWhole p.state → IsWhole (goes_on p tx number more).place.state
 goes_on_whole p tx number true w = w
 goes_on_whole p tx number false w = result_whole p p.state tx number w
 
-pulls_whole : (p : Place) (tx : Tx) (keep : Bool) (extra : Pairs) (r : Checked Wish) → wish_of tx.results extra ≡ r → IsWhole p.state
+pulls_whole : (p : Situation) (tx : Tx) (keep : Bool) (extra : Pairs) (r : Checked Wish) → wish_of tx.results extra ≡ r → IsWhole p.state
     → IsWhole (pulls p tx keep extra).place.state
 pulls_whole p tx keep extra (Err refusal) h w = rw (h, IsWhole) tt
 pulls_whole p tx keep extra (Ok wish) h w =
@@ -104,7 +104,7 @@ pulls_whole p tx keep extra (Ok wish) h w =
     let more = are_left wish.count (left_in tx wish) in
     rw (h, IsWhole) (goes_on_whole p (pulled tx wish (length rows) more) wish.number more w)
 
-answered_whole : (config : ConnConfig) (p : Place) (turn : Turn) → IsWhole p.state → IsWhole (answered config p turn).place.state
+answered_whole : (config : ConnConfig) (p : Situation) (turn : Turn) → IsWhole p.state → IsWhole (answered config p turn).place.state
 answered_whole config p (t.Login extra) w = either_turn (is_welcome config.auth extra) _ _ tt tt
 answered_whole config p t.HelloExpected w = tt
 answered_whole config p t.End w = tt
@@ -123,33 +123,33 @@ answered_whole config p t.Commit w = ends_whole (freed p) (tx_in p.doing) w
 answered_whole config p t.Rollback w = tt
 answered_whole config p t.OutOfPlace w = tt
 
-message_whole : (config : ConnConfig) (p : Place) (bytes : List ℕ) (r : Result Request MessageError) → request_at bytes ≡ r
+message_whole : (config : ConnConfig) (p : Situation) (bytes : List ℕ) (r : Result Request MessageError) → request_at bytes ≡ r
     → IsWhole p.state → IsWhole (on_message config p bytes).place.state
 message_whole config p bytes (Err cause) h w = rw (h, IsWhole) tt
 message_whole config p bytes (Ok request) h w = rw (h, IsWhole) (answered_whole config (counted p) (turn_of p.state request) w)
 
-shake_whole : (p : Place) (shake : Shake) → IsWhole p.state → IsWhole (on_shake p shake).place.state
+shake_whole : (p : Situation) (shake : Shake) → IsWhole p.state → IsWhole (on_shake p shake).place.state
 shake_whole p Chosen w = tt
 shake_whole p NoVersion w = tt
 shake_whole p BadMagic w = tt
 shake_whole p More w = w
 
-live_whole : (config : ConnConfig) (p : Place) (i : Input) → IsWhole p.state → IsWhole (on_live config p i).place.state
+live_whole : (config : ConnConfig) (p : Situation) (i : Input) → IsWhole p.state → IsWhole (on_live config p i).place.state
 live_whole config p (shaken shake) w = shake_whole p shake w
 live_whole config p (message bytes) w = message_whole config p bytes (request_at bytes) refl w
 live_whole config p too_long w = tt
 
-input_whole : (config : ConnConfig) (p : Place) (s : ConnState) (i : Input) → IsWhole p.state → IsWhole (on_input config p s i).place.state
+input_whole : (config : ConnConfig) (p : Situation) (s : ConnState) (i : Input) → IsWhole p.state → IsWhole (on_input config p s i).place.state
 input_whole config p (Ended stop) i w = w
 input_whole config p _ i w = live_whole config p i w
 
 -- ---- facts
 
-begin_whole : (p : Place) (write : Bool) (fact : Fact) → IsWhole (after_begin p write fact).place.state
+begin_whole : (p : Situation) (write : Bool) (fact : Fact) → IsWhole (after_begin p write fact).place.state
 begin_whole p write (f.Entered at) = tt
 begin_whole p write _ = tt
 
-enter_whole : (p : Place) (write : Bool) (call : Call) (fact : Fact) → IsWhole p.state
+enter_whole : (p : Situation) (write : Bool) (call : Call) (fact : Fact) → IsWhole p.state
     → IsWhole (after_enter p write call fact).place.state
 enter_whole p write call (f.Entered at) w = w
 enter_whole p write call _ w = tt
@@ -158,34 +158,34 @@ streaming_whole : (s : ConnState) → IsWhole (streaming s)
 streaming_whole Ready = tt
 streaming_whole _ = tt
 
-rows_whole : (p : Place) (calls : List Call) (tx : Tx) (fact : Fact) → IsWhole (after_step p calls tx fact).place.state
+rows_whole : (p : Situation) (calls : List Call) (tx : Tx) (fact : Fact) → IsWhole (after_step p calls tx fact).place.state
 rows_whole p calls tx (f.Rows at rows) =
     either_turn (nat_lt max_bytes (tx.kept + rows_len rows)) _ _ tt (streaming_whole p.state)
 rows_whole p calls tx _ = tt
 
-run_whole : (p : Place) (q : Question) (tx : Tx) (fact : Fact) → IsWhole (after_run p q tx fact).place.state
+run_whole : (p : Situation) (q : Question) (tx : Tx) (fact : Fact) → IsWhole (after_run p q tx fact).place.state
 run_whole p (run calls) tx fact = rows_whole p calls tx fact
 run_whole p _ tx fact = tt
 
-done_whole : (config : ConnConfig) (p : Place) (s : ConnState) (calls : List Call) (at : ℕ)
+done_whole : (config : ConnConfig) (p : Situation) (s : ConnState) (calls : List Call) (at : ℕ)
     → IsWhole (tells_done config p s calls at).place.state
 done_whole config p Streaming calls at = tt
 done_whole config p _ calls at = tt
 
-end_whole : (config : ConnConfig) (p : Place) (calls : List Call) (fact : Fact) → IsWhole (after_end config p calls fact).place.state
+end_whole : (config : ConnConfig) (p : Situation) (calls : List Call) (fact : Fact) → IsWhole (after_end config p calls fact).place.state
 end_whole config p calls (f.Done at) = done_whole config p p.state calls at
 end_whole config p calls (f.Placed at) = done_whole config p p.state calls at
 end_whole config p calls _ = tt
 
-leave_whole : (config : ConnConfig) (p : Place) (q : Question) (fact : Fact) → IsWhole (after_leave config p q fact).place.state
+leave_whole : (config : ConnConfig) (p : Situation) (q : Question) (fact : Fact) → IsWhole (after_leave config p q fact).place.state
 leave_whole config p (leave calls told) fact = end_whole config p calls fact
 leave_whole config p _ fact = tt
 
-leader_whole : (config : ConnConfig) (p : Place) (fact : Fact) → IsWhole (after_route config p fact).place.state
+leader_whole : (config : ConnConfig) (p : Situation) (fact : Fact) → IsWhole (after_route config p fact).place.state
 leader_whole config p (f.Routed leader) = tt
 leader_whole config p _ = tt
 
-heard_whole : (config : ConnConfig) (p : Place) (q : Question) (n : Next) (fact : Fact) → IsWhole p.state
+heard_whole : (config : ConnConfig) (p : Situation) (q : Question) (n : Next) (fact : Fact) → IsWhole p.state
     → IsWhole (heard config p q n fact).place.state
 heard_whole config p q (begins write) fact w = begin_whole p write fact
 heard_whole config p q (runs write call) fact w = enter_whole p write call fact w
@@ -195,18 +195,18 @@ heard_whole config p q routes fact w = leader_whole config p fact
 
 -- ---- over whole sessions
 
-reads_whole : (config : ConnConfig) (p : Place) (xs : List Input) (fs : List Fact) (s : Standing) → reads config p xs fs ≡ Some s
+reads_whole : (config : ConnConfig) (p : Situation) (xs : List Input) (fs : List Fact) (s : Standing) → reads config p xs fs ≡ Some s
     → IsWhole p.state → IsWhole s.core.state
 reads_whole config p [] fs s e w = absurd (cc)
 reads_whole config p (x ∷ xs) fs s e w =
     let is : (on_input config p p.state x).place ≡ s.core = cc in
-    subst (λ (q : Place). IsWhole q.state) is (input_whole config p p.state x w)
+    subst (λ (q : Situation). IsWhole q.state) is (input_whole config p p.state x w)
 
 hears_by : (b : Bool) (u s : Standing) → (if b then Some u else None) ≡ Some s → IsWhole u.core.state → IsWhole s.core.state
 hears_by false u s e w = absurd (cc)
 hears_by true u s e w = let is : u ≡ s = cc in subst (λ (r : Standing). IsWhole r.core.state) is w
 
-hears_whole : (config : ConnConfig) (p : Place) (q : Question) (n : Next) (xs : List Input) (fs : List Fact) (s : Standing)
+hears_whole : (config : ConnConfig) (p : Situation) (q : Question) (n : Next) (xs : List Input) (fs : List Fact) (s : Standing)
     → hears config p q n xs fs ≡ Some s → IsWhole p.state → IsWhole s.core.state
 hears_whole config p q n xs [] s e w = absurd (cc)
 hears_whole config p q n xs (x ∷ fs) s e w =
@@ -214,18 +214,18 @@ hears_whole config p q n xs (x ∷ fs) s e w =
     let stand : Standing = record { core = u.place; items = xs; facts = fs; written = u.written } in
     hears_by (fits q x) stand s e (heard_whole config (freed p) q n x w)
 
-acts_whole : (config : ConnConfig) (p : Place) (d : Doing) (xs : List Input) (fs : List Fact) (s : Standing)
+acts_whole : (config : ConnConfig) (p : Situation) (d : Doing) (xs : List Input) (fs : List Fact) (s : Standing)
     → acts config p d xs fs ≡ Some s → IsWhole p.state → IsWhole s.core.state
 acts_whole config p (asks q n) xs fs s e w = hears_whole config p q n xs fs s e w
 acts_whole config p idle xs fs s e w = reads_whole config p xs fs s e w
 acts_whole config p (opened tx) xs fs s e w = reads_whole config p xs fs s e w
 
-goes_whole : (config : ConnConfig) (p : Place) (state : ConnState) (xs : List Input) (fs : List Fact) (s : Standing)
+goes_whole : (config : ConnConfig) (p : Situation) (state : ConnState) (xs : List Input) (fs : List Fact) (s : Standing)
     → goes_by config p state xs fs ≡ Some s → IsWhole p.state → IsWhole s.core.state
 goes_whole config p (Ended stop) xs fs s e w = reads_whole config p xs fs s e w
 goes_whole config p _ xs fs s e w = acts_whole config p p.doing xs fs s e w
 
-move_whole : (config : ConnConfig) (p : Place) (xs : List Input) (fs : List Fact) (s : Standing) → move config p xs fs ≡ Some s
+move_whole : (config : ConnConfig) (p : Situation) (xs : List Input) (fs : List Fact) (s : Standing) → move config p xs fs ≡ Some s
     → IsWhole p.state → IsWhole s.core.state
 unfolding move
 move_whole config p xs fs s e w = goes_whole config p p.state xs fs s e w
@@ -242,7 +242,7 @@ whole_by config a xs fs n =
     let u = on_shake start a in
     let t : Standing = record { core = u.place; items = []; facts = []; written = u.written } in
     let one = (lawful config).extends start (shaken_as a) [] t xs fs (shake_moves config a n) in
-    let w = keeps (move config) (λ (p : Place). IsWhole p.state) (λ p ys gs s e h. move_whole config p ys gs s e h) u.place xs fs
+    let w = keeps (move config) (λ (p : Situation). IsWhole p.state) (λ p ys gs s e h. move_whole config p ys gs s e h) u.place xs fs
     (settled a n) in
     subst (λ (s : Standing). IsWhole s.core.state)
     (sym (going_some (move config) (lawful config) start (shaken_as a ++ xs) fs

@@ -50,7 +50,7 @@ pub data Doing : Type 0 where
   opened : Tx → Doing
   asks : Question → Next → Doing
 
-pub record Place : Type 0 where
+pub record Situation : Type 0 where
   -- where it stands, as others see it; while a question waits, where it stood before the request
   pub state : ConnState
   -- the number of the next message on the connection, from 0; it stays at the greatest u64
@@ -91,5 +91,5 @@ doing_of p.Idle = idle
 doing_of (p.Opened t) = opened (tx_of t)
 doing_of (p.Asks ask behind) = asks (question_of ask) (next_of behind)
 
-abbrev pub place_of : Core → Place
+abbrev pub place_of : Core → Situation
 place_of c = record { state = c.state; number = c.number; doing = doing_of c.phase }

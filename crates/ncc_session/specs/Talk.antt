@@ -9,7 +9,7 @@ use Rattle.ncc_session.specs.declared.state.ConnState.{ConnState}
 use Rattle.ncc_session.specs.declared.state.ConnState.TheVariants.{Shaking, Ended}
 use Rattle.ncc_session.specs.declared.ask.Fact.{Fact}
 use Rattle.ncc_session.specs.Question.{Question, Output, bytes_of, fits}
-use Rattle.ncc_session.specs.Core.{Next, runs, Doing, asks, Place}
+use Rattle.ncc_session.specs.Core.{Next, runs, Doing, asks, Situation}
 use Rattle.ncc_session.specs.Session.{Input, stream_inputs, stream_of, session, question_in, asked_at}
 use Rattle.ncc_session.specs.Turns.{MayAsk}
 
@@ -18,7 +18,7 @@ pub record Talk : Type 0 where
   -- memory was wanting
   pub spent : Bool
   pub config : ConnConfig
-  pub place : Place
+  pub place : Situation
   -- the bytes of the handshake so far
   pub shake : List ℕ
   -- what is kept of the stream of messages
@@ -27,7 +27,7 @@ pub record Talk : Type 0 where
   pub out : List ℕ
 
 -- the same of its parts
-abbrev pub talk_of : Bool → ConnConfig → Place → List ℕ → Inflow → List ℕ → Talk
+abbrev pub talk_of : Bool → ConnConfig → Situation → List ℕ → Inflow → List ℕ → Talk
 talk_of spent config place shake inflow out =
     record { spent = spent; config = config; place = place; shake = shake; inflow = inflow; out = out }
 
@@ -88,7 +88,7 @@ HandsOut old handed new =
     → Stands old config bytes facts out → Stands new config bytes facts (out ++ handed)
 
 -- It is this of the session of what was fed and told.
-abbrev pub Shows : {A : Type 0} → (Place → A) → Talk → A → Type 0
+abbrev pub Shows : {A : Type 0} → (Situation → A) → Talk → A → Type 0
 Shows view talk answer =
     (config : ConnConfig) (bytes : List ℕ) (facts : List Fact) (out : List ℕ)
     → Stands talk config bytes facts out → answer ≡ view (session config bytes facts).core
@@ -120,7 +120,7 @@ facts_in _ = 0
 
 -- At most so many facts are told before more bytes have to come: two for each message that is ready, and those of the question. Each
 -- fact lowers it, and only bytes raise it.
-abbrev pub facts_left : Place → Inflow → ℕ
+abbrev pub facts_left : Situation → Inflow → ℕ
 facts_left place inflow = 2 * length inflow.ready + facts_in place.doing
 
 abbrev pub measure : Talk → ℕ
@@ -147,7 +147,7 @@ RestsBy Shaking question bytes = bytes ≡ []
 RestsBy _ (Some question) bytes = ⊥
 RestsBy _ None bytes = IsBetweenMessages (stream_of bytes)
 
-abbrev pub Rests : Place → List ℕ → Type 0
+abbrev pub Rests : Situation → List ℕ → Type 0
 Rests place bytes = RestsBy place.state (question_in place.doing) bytes
 
 abbrev pub SaysIdle : Talk → Bool → Type 0

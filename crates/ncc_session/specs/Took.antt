@@ -4,11 +4,11 @@ use Rattle.ncc_store.specs.Exec.{call_of}
 use Rattle.ncc_tx.specs.declared.entry.Entry.{Entry}
 use Rattle.ncc_tx.specs.declared.entry.Entry.TheVariants as e
 use Rattle.ncc_session.specs.Question.{bytes_of}
-use Rattle.ncc_session.specs.Core.{Place}
+use Rattle.ncc_session.specs.Core.{Situation}
 use Rattle.ncc_session.specs.Turns.{Turned, may_leave}
 
 -- the turn was made: where it leads, and its bytes behind what was there
-pub record Took (turn : Turned) (before : List ℕ) (place : Place) (after : List ℕ) : Type 0 where
+pub record Took (turn : Turned) (before : List ℕ) (place : Situation) (after : List ℕ) : Type 0 where
   pub place_is : place ≡ turn.place
   pub out_is : after ≡ before ++ bytes_of turn.written
 

@@ -12,7 +12,7 @@ use Rattle.ncc_session.specs.declared.ask.Fact.TheVariants as f
 use Rattle.ncc_session.specs.declared.table.Turn.{Turn}
 use Rattle.ncc_session.specs.declared.table.Turn.TheVariants as t
 use Rattle.ncc_session.specs.Question.{Question, enter, run, leave, route, Row, questions_of}
-use Rattle.ncc_session.specs.Core.{Place}
+use Rattle.ncc_session.specs.Core.{Situation}
 use Rattle.ncc_session.specs.Checks.{under, bookmarks_of, place_in}
 use Rattle.ncc_session.specs.Table.{turn_of}
 use Rattle.ncc_session.specs.Session.{session, on_message}
@@ -78,7 +78,7 @@ abbrev pub IsGreatest : ℕ → List ℕ → Type 0
 IsGreatest need places = All (λ place. place ≤ need) places × (Contains places need ⊎ (need ≡ 0))
 
 -- a message is a request with a dictionary that presents these places
-pub record Begins (config : ConnConfig) (place : Place) (message : List ℕ) (places : List ℕ) : Type 0 where
+pub record Begins (config : ConnConfig) (place : Situation) (message : List ℕ) (places : List ℕ) : Type 0 where
   pub request : Request
   pub extra : Pairs
   pub reads : request_at message ≡ Ok request
@@ -88,6 +88,6 @@ pub record Begins (config : ConnConfig) (place : Place) (message : List ℕ) (pl
 -- Where a message has a session ask to enter, it begins a transaction, and the place that is needed is the greatest that it presents.
 abbrev pub NeedsTheGreatest : Type 0
 NeedsTheGreatest =
-    (config : ConnConfig) (place : Place) (message : List ℕ) (need : ℕ)
+    (config : ConnConfig) (place : Situation) (message : List ℕ) (need : ℕ)
     → questions_of (on_message config place message).written ≡ enter need ∷ []
     → (places : List ℕ) × Begins config place message places × IsGreatest need places

@@ -23,7 +23,7 @@ use Rattle.ncc_session.specs.declared.ask.Fact.TheVariants as f
 use Rattle.ncc_session.specs.declared.table.Turn.{Turn}
 use Rattle.ncc_session.specs.declared.table.Turn.TheVariants as t
 use Rattle.ncc_session.specs.Question.{Question, enter, run, leave, leave_noop, route, Output, asked, statement_of, some_writes, Row}
-use Rattle.ncc_session.specs.Core.{Tx, Next, begins, runs, adds, leaves, routes, Doing, idle, opened, asks, Place}
+use Rattle.ncc_session.specs.Core.{Tx, Next, begins, runs, adds, leaves, routes, Doing, idle, opened, asks, Situation}
 use Rattle.ncc_session.specs.Replies.{reply, success, failure, hello_meta, run_meta, step_meta, more_meta, kind_of, end_meta, done_meta}
 use Rattle.ncc_session.specs.Replies.{commit_meta, table_meta}
 use Rattle.ncc_session.specs.Checks.{Checked, and_then, entrance_of, need_of, checked_call, room_in, wish_of, is_welcome}
@@ -32,28 +32,28 @@ use Rattle.ncc_session.specs.declared.checks.Entrance.{Entrance}
 
 -- where a turn leads, and what it puts out
 pub record Turned : Type 0 where
-  pub place : Place
+  pub place : Situation
   pub written : List Output
 
 -- to a state, with this put out
-abbrev pub goes : Place → ConnState → Doing → List Output → Turned
+abbrev pub goes : Situation → ConnState → Doing → List Output → Turned
 goes place state doing written =
     record { place = record { state = state; number = place.number; doing = doing }; written = written }
 
 -- the same place, with nothing done
-abbrev pub freed : Place → Place
+abbrev pub freed : Situation → Situation
 freed place = record { state = place.state; number = place.number; doing = idle }
 
 -- a success, in the state, with no transaction
-abbrev pub rests : Place → ConnState → Pairs → Turned
+abbrev pub rests : Situation → ConnState → Pairs → Turned
 rests place state meta = goes place state idle (success meta ∷ [])
 
 -- a failure: transaction and results are dropped
-abbrev pub fails : Place → Refusal → Turned
+abbrev pub fails : Situation → Refusal → Turned
 fails place refusal = goes place Failed idle (failure refusal ∷ [])
 
 -- a question is asked: the state stays
-abbrev pub puts : Place → Question → Next → Turned
+abbrev pub puts : Situation → Question → Next → Turned
 puts place question next = goes place place.state (asks question next) (asked question ∷ [])
 
 -- the same behind what was put out before
@@ -61,38 +61,38 @@ abbrev pub preceded : List Output → Turned → Turned
 preceded before turn = record { place = turn.place; written = before ++ turn.written }
 
 -- a failure that ends the connection
-abbrev pub refuses : Place → Refusal → Turned
+abbrev pub refuses : Situation → Refusal → Turned
 refuses place refusal = goes place (Ended Refused) idle (failure refusal ∷ [])
 
 -- ---- requests
 
-abbrev pub logs_in : ConnConfig → Place → Pairs → Turned
+abbrev pub logs_in : ConnConfig → Situation → Pairs → Turned
 logs_in config place extra =
     if is_welcome config.auth extra then rests place Ready (hello_meta config.conn)
     else refuses place r.Unauthorized
 
 -- RUN outside of a transaction: checks 1 to 7, and the question whether it may enter
-abbrev pub runs_entered : Place → List ℕ → Pairs → Entrance → Turned
+abbrev pub runs_entered : Situation → List ℕ → Pairs → Entrance → Turned
 runs_entered place query params entrance = elim (checked_call entrance.write query params) [
   | Err refusal ↦ fails place refusal
   | Ok call ↦ puts place (enter entrance.need) (runs entrance.write call)
 ]
 
-abbrev pub runs_alone : ConnConfig → Place → List ℕ → Pairs → Pairs → Turned
+abbrev pub runs_alone : ConnConfig → Situation → List ℕ → Pairs → Pairs → Turned
 runs_alone config place query params extra = elim (entrance_of config.members.cluster extra) [
   | Err refusal ↦ fails place refusal
   | Ok entrance ↦ runs_entered place query params entrance
 ]
 
 -- BEGIN: checks 1 to 5, and the same question
-abbrev pub begins_one : ConnConfig → Place → Pairs → Turned
+abbrev pub begins_one : ConnConfig → Situation → Pairs → Turned
 begins_one config place extra = elim (entrance_of config.members.cluster extra) [
   | Err refusal ↦ fails place refusal
   | Ok entrance ↦ puts place (enter entrance.need) (begins entrance.write)
 ]
 
 -- ROUTE: checks 2 to 5, and the question who leads
-abbrev pub asks_route : ConnConfig → Place → List Value → Pairs → Turned
+abbrev pub asks_route : ConnConfig → Situation → List Value → Pairs → Turned
 asks_route config place bookmarks extra = elim (need_of config.members.cluster (Some (v.List bookmarks)) extra) [
   | Err refusal ↦ fails place refusal
   | Ok need ↦ puts place route routes
@@ -114,7 +114,7 @@ without_steps tx = record tx { steps = [] }
 abbrev pub checked_step : Tx → List ℕ → Pairs → Checked Call
 checked_step tx query params = and_then (room_in tx.steps) (λ _. checked_call tx.write query params)
 
-abbrev pub runs_step : Place → Tx → List ℕ → Pairs → Turned
+abbrev pub runs_step : Situation → Tx → List ℕ → Pairs → Turned
 runs_step place tx query params = elim (checked_step tx query params) [
   | Err refusal ↦ fails place refusal
   | Ok call ↦ puts place (run (tx.steps ++ call ∷ [])) (adds (without_steps tx))
@@ -179,40 +179,40 @@ MayAsk leave_noop = ⊥
 MayAsk route = Unit {0}
 
 -- the transaction ends: the question whether it is done
-abbrev pub ends_tx : Place → Tx → Turned
+abbrev pub ends_tx : Situation → Tx → Turned
 ends_tx place tx = if may_leave tx.steps tx.told then puts place (leave tx.steps tx.told) leaves else fails place r.TooLarge
 
 -- behind the last row of a result: a transaction by itself ends, and one of several steps goes on
 abbrev pub open_state : ℕ → ConnState
 open_state unended = if unended == 0 then TxReady else TxStreaming
 
-abbrev pub ends_step : Place → Tx → ℕ → Turned
+abbrev pub ends_step : Situation → Tx → ℕ → Turned
 ends_step place tx number = goes place (open_state tx.unended) (opened tx) (success (end_meta (kind_in tx.steps number)) ∷ [])
 
-abbrev pub ends_result : Place → ConnState → Tx → ℕ → Turned
+abbrev pub ends_result : Situation → ConnState → Tx → ℕ → Turned
 ends_result place Streaming tx number = ends_tx place tx
 ends_result place _ tx number = ends_step place tx number
 
-abbrev pub goes_on : Place → Tx → ℕ → Bool → Turned
+abbrev pub goes_on : Situation → Tx → ℕ → Bool → Turned
 goes_on place tx number more =
     if more then goes place place.state (opened tx) (success more_meta ∷ []) else ends_result place place.state tx number
 
 -- PULL and DISCARD: check 8, and rows
-abbrev pub pulls_rows : Place → Tx → Bool → Wish → List Row → Bool → Turned
+abbrev pub pulls_rows : Situation → Tx → Bool → Wish → List Row → Bool → Turned
 pulls_rows place tx keep wish rows more =
     preceded (records keep rows) (goes_on place (pulled tx wish (length rows) more) wish.number more)
 
-abbrev pub pulls_wish : Place → Tx → Bool → Wish → Turned
+abbrev pub pulls_wish : Situation → Tx → Bool → Wish → Turned
 pulls_wish place tx keep wish = pulls_rows place tx keep wish (taken wish.count (left_in tx wish)) (are_left wish.count (left_in tx wish))
 
-abbrev pub pulls : Place → Tx → Bool → Pairs → Turned
+abbrev pub pulls : Situation → Tx → Bool → Pairs → Turned
 pulls place tx keep extra = elim (wish_of tx.results extra) [
   | Err refusal ↦ fails place refusal
   | Ok wish ↦ pulls_wish place tx keep wish
 ]
 
 -- a request, by the row of the table that fits
-abbrev pub answered : ConnConfig → Place → Turn → Turned
+abbrev pub answered : ConnConfig → Situation → Turn → Turned
 answered config place (t.Login extra) = logs_in config place extra
 answered config place t.HelloExpected = refuses place r.HelloExpected
 answered config place t.End = goes place (Ended Goodbye) idle []
@@ -255,11 +255,11 @@ abbrev pub streaming : ConnState → ConnState
 streaming Ready = Streaming
 streaming _ = TxStreaming
 
-abbrev pub tells_columns : Place → Tx → ℕ → Turned
+abbrev pub tells_columns : Situation → Tx → ℕ → Turned
 tells_columns place tx number =
     goes place (streaming place.state) (opened tx) (success (columns_meta place.state tx.steps number) ∷ [])
 
-abbrev pub adds_rows : Place → List Call → Tx → List Row → Turned
+abbrev pub adds_rows : Situation → List Call → Tx → List Row → Turned
 adds_rows place calls tx rows =
     if nat_lt max_bytes (tx.kept + rows_len rows) then fails place r.TooLarge
     else tells_columns place (with_rows calls tx rows) (length tx.told)
@@ -270,7 +270,7 @@ told_meta cluster Streaming calls at = done_meta cluster at (kind_in calls 0)
 told_meta cluster _ calls at = commit_meta cluster at
 
 -- the transaction is done
-abbrev pub tells_done : ConnConfig → Place → ConnState → List Call → ℕ → Turned
+abbrev pub tells_done : ConnConfig → Situation → ConnState → List Call → ℕ → Turned
 tells_done config place state calls at = rests place Ready (told_meta config.members.cluster state calls at)
 
 -- why a fact fails the request
@@ -285,37 +285,37 @@ refusal_of (f.Full entries) = r.Full
 refusal_of _ = r.OutOfPlace
 
 -- behind BEGIN, behind a RUN outside of a transaction, behind a step, behind the end, and behind ROUTE
-abbrev pub after_begin : Place → Bool → Fact → Turned
+abbrev pub after_begin : Situation → Bool → Fact → Turned
 after_begin place write (f.Entered at) = goes place TxReady (opened (new_tx write)) (success [] ∷ [])
 after_begin place write fact = fails place (refusal_of fact)
 
-abbrev pub after_enter : Place → Bool → Call → Fact → Turned
+abbrev pub after_enter : Situation → Bool → Call → Fact → Turned
 after_enter place write call (f.Entered at) = puts place (run (call ∷ [])) (adds (new_tx write))
 after_enter place write call fact = fails place (refusal_of fact)
 
-abbrev pub after_step : Place → List Call → Tx → Fact → Turned
+abbrev pub after_step : Situation → List Call → Tx → Fact → Turned
 after_step place calls tx (f.Rows at rows) = adds_rows place calls tx rows
 after_step place calls tx fact = fails place (refusal_of fact)
 
-abbrev pub after_run : Place → Question → Tx → Fact → Turned
+abbrev pub after_run : Situation → Question → Tx → Fact → Turned
 after_run place (run calls) tx fact = after_step place calls tx fact
 after_run place question tx fact = fails place (refusal_of fact)
 
-abbrev pub after_end : ConnConfig → Place → List Call → Fact → Turned
+abbrev pub after_end : ConnConfig → Situation → List Call → Fact → Turned
 after_end config place calls (f.Done at) = tells_done config place place.state calls at
 after_end config place calls (f.Placed at) = tells_done config place place.state calls at
 after_end config place calls fact = fails place (refusal_of fact)
 
-abbrev pub after_leave : ConnConfig → Place → Question → Fact → Turned
+abbrev pub after_leave : ConnConfig → Situation → Question → Fact → Turned
 after_leave config place (leave calls told) fact = after_end config place calls fact
 after_leave config place question fact = fails place (refusal_of fact)
 
-abbrev pub after_route : ConnConfig → Place → Fact → Turned
+abbrev pub after_route : ConnConfig → Situation → Fact → Turned
 after_route config place (f.Routed leader) = rests place Ready (table_meta config.members leader config.ttl)
 after_route config place fact = fails place (refusal_of fact)
 
 -- a fact, by the question that it answers and what goes on behind it
-abbrev pub heard : ConnConfig → Place → Question → Next → Fact → Turned
+abbrev pub heard : ConnConfig → Situation → Question → Next → Fact → Turned
 heard config place question (begins write) fact = after_begin place write fact
 heard config place question (runs write call) fact = after_enter place write call fact
 heard config place question (adds tx) fact = after_run place question tx fact

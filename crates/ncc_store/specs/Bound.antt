@@ -10,7 +10,7 @@ use Rattle.ncc_store.specs.Props.{Props}
 abbrev pub props_in : Bound → Props
 props_in b.Free = []
 props_in (b.Node n) = n.now.props
-props_in (b.Draft d) = d.now
+props_in (b.PropertyMap d) = d.now
 
 -- the node is one of a store; a draft keeps its own properties in order
 abbrev pub IsReady : Bound → Type 0

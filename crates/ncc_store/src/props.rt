@@ -76,11 +76,11 @@ impl<'a> Params<'a> {
 
 /// The properties of a node that is being made or changed. A contract sees the pairs in the order of their keys.
 #[derive(Drop)]
-pub(crate) struct Draft<'a> {
+pub(crate) struct PropertyMap<'a> {
     pairs: BTreeMap<&'a str, Value>,
 }
 
-impl<'a> Model for Draft<'a> {
+impl<'a> Model for PropertyMap<'a> {
     ghost use Rattle.ncc_store.specs.Props.{Props};
 
     ghost Value = { Props };
@@ -95,18 +95,18 @@ impl<'a> Model for Draft<'a> {
     ghost view = { λ d. owned d.pairs.entries };
 }
 
-impl<'a> Draft<'a> {
+impl<'a> PropertyMap<'a> {
     /// No properties. It takes no memory.
-    pub(crate) fn new(alloc: Global) -> Draft<'a>
+    pub(crate) fn new(alloc: Global) -> PropertyMap<'a>
         ensures { result ≡ [] }
     {
-        Draft {
+        PropertyMap {
             pairs: BTreeMap::new(alloc),
         }
     }
 
     /// The properties of a node.
-    pub(crate) fn of(alloc: Global, props: &'a Dict) -> Result<Draft<'a>, Memory>
+    pub(crate) fn of(alloc: Global, props: &'a Dict) -> Result<PropertyMap<'a>, Memory>
         requires { IsKeyed props.now }
         ensures { IfOk result (λ d. d ≡ props.now) }
     {
@@ -114,7 +114,7 @@ impl<'a> Draft<'a> {
         for pair in props.as_slice() {
             pairs.insert(pair.0.as_str(), pair.1.copy()?)?;
         }
-        Ok(Draft { pairs })
+        Ok(PropertyMap { pairs })
     }
 
     /// The value at a key.
@@ -140,7 +140,7 @@ impl<'a> Draft<'a> {
         ensures same { IfOk result (λ d. d ≡ self.entry) }
         ensures keyed { IsKeyed self.entry }
     {
-        let Draft { pairs } = self;
+        let PropertyMap { pairs } = self;
         let mut dict = Sequence::with_capacity(alloc, pairs.len())?;
         for (key, value) in pairs {
             dict.push((Text::from_str(alloc, key)?, value))?;

@@ -15,7 +15,7 @@ ghost use Rattle.ncc_store.specs.Props.{IsKeyed, ArePlain, put};
 use crate::fault::{RunError, RunFault};
 use crate::node::{StoredNode, kept};
 use crate::overlay::Overlay;
-use crate::props::{Draft, Params};
+use crate::props::{PropertyMap, Params};
 use crate::ran::{Delta, Ran};
 use crate::rows::returned;
 use crate::scalar::Scalar;
@@ -32,7 +32,7 @@ fn pairs(alloc: Global, params: &Params, list: &[Pair]) -> Result<Dict, RunError
     ensures keyed { IfOk result IsKeyed }
     ensures plain { IfOk result ArePlain }
 {
-    let mut draft = Draft::new(alloc);
+    let mut draft = PropertyMap::new(alloc);
     for pair in list {
         let value = sum(params, &Bound::Free, &pair.value)?;
         draft.put(pair.key.as_str(), value)?;
@@ -46,7 +46,7 @@ fn one_prop(alloc: Global, key: &str, value: Scalar) -> Result<Dict, Memory>
     ensures keyed { IfOk result IsKeyed }
     ensures plain { IfOk result ArePlain }
 {
-    let mut draft = Draft::new(alloc);
+    let mut draft = PropertyMap::new(alloc);
     draft.put(key, value)?;
     draft.into_dict(alloc)
 }
@@ -140,9 +140,9 @@ fn changed(
     ensures node { IfOk result IsNode }
     ensures id { IfOk result (λ n. n.id ≡ node.now.id) }
 {
-    let mut draft = Draft::of(alloc, &node.props)?;
+    let mut draft = PropertyMap::of(alloc, &node.props)?;
     for change in changes {
-        let value = sum(params, &Bound::Draft(&draft), &change.value)?;
+        let value = sum(params, &Bound::PropertyMap(&draft), &change.value)?;
         draft.put(change.key.as_str(), value)?;
     }
     let label = node.label.copy()?;

@@ -9,7 +9,7 @@ ghost use Rattle.ncc_store.specs.Bound.{props_in, IsReady};
 
 use crate::fault::{RunError, RunFault};
 use crate::node::StoredNode;
-use crate::props::{Draft, Params, value_at};
+use crate::props::{PropertyMap, Params, value_at};
 use crate::scalar::{Scalar, plus, scalar_of};
 use ncc_cypher::{Expr, Term};
 use ncc_pack::{Memory, Value};
@@ -19,7 +19,7 @@ use ncc_pack::{Memory, Value};
 pub(crate) enum Bound<'n, 'd> {
     Free,
     Node(&'n StoredNode),
-    Draft(&'n Draft<'d>),
+    PropertyMap(&'n PropertyMap<'d>),
 }
 
 /// The value at a key of the bound node.
@@ -30,7 +30,7 @@ fn held<'b>(bound: &'b Bound, key: &str) -> Option<&'b Value>
     match bound {
         Bound::Free => None,
         Bound::Node(node) => value_at(node.props.as_slice(), key),
-        Bound::Draft(draft) => draft.value_at(key),
+        Bound::PropertyMap(draft) => draft.value_at(key),
     }
 }
 

@@ -1,14 +1,15 @@
 -- Loops over what sessions do: all that one wants done is done, all who are due are woken, and all that may move on a link moves.
-use Rattle.std.proofs.Common.{◌≡◌, ℕ, suc, ◌+◌, ◌-◌, ◌<◌, List, [], ◌∷◌, length, Option, Some, None}
+use Rattle.std.proofs.Common.{◌≡◌, ℕ, suc, ◌+◌, ◌-◌, ◌<◌, ◌≤◌, List, [], ◌∷◌, length, Option, Some, None}
 use Rattle.std.proofs.Common.{refl, sym, ap, ◌∙◌, subst, arith, drop, get_or, drop-cons}
 use Rattle.std.specs.Prelude.{slice_get}
 use Rattle.ncc_driver.specs.declared.action.Action.{Action}
 use Rattle.ncc_driver.specs.declared.action.Input.{Input}
 use Rattle.ncc_clients.proofs.Lists.{get_there}
 use Rattle.ncc_clients.specs.Links.{Driver, Driving}
-use Rattle.ncc_clients.specs.Drives.{does_all, does_by, driver_at, joined, last_of, wakes_all, woken}
+use Rattle.ncc_clients.specs.Drives.{does_all, does_by, driver_at, joined, last_of, wakes_all, with_driver, woken}
 use Rattle.ncc_clients.specs.declared.driver.Effect.{Effect}
 use Rattle.ncc_clients.specs.Held.{effect_of, own}
+use Rattle.ncc_clients.proofs.Lowering.{number}
 use Rattle.ncc_world.specs.declared.setup.Setup.{Setup}
 use Rattle.ncc_world.specs.declared.running.Running.{Running}
 use Rattle.ncc_world.specs.declared.drivers.Drivers.{Drivers}
@@ -18,7 +19,8 @@ use Rattle.ncc_world.specs.Drivers.{AreAtWork, DoesFirst, IsAwake, due_from, wit
 use Rattle.ncc_world.specs.Parts.{HasDone, HasDue, HasMid, MovesOnce, PumpsOn, RunsAll, RunsDue, RunsMid, drivers_in, with_own}
 use Rattle.ncc_world.proofs.Doing.{all_at, all_done, all_first, mid_with, queued_in, queued_is, there_in, told_behind, told_first, told_next, within_list}
 use Rattle.ncc_world.proofs.Listening.{there_now}
-use Rattle.ncc_world.proofs.Waking.{AreNext, are_next, next_first, wakes_are, wakes_each, wakes_next, wakes_none}
+use Rattle.ncc_world.proofs.Lessening.{number_most}
+use Rattle.ncc_world.proofs.Waking.{AreNext, are_next, next_first, next_rest, wakes_are, wakes_each, wakes_next, wakes_none}
 
 -- ---- all that a session wants done
 
@@ -223,29 +225,36 @@ wakes_end s line from w x =
 
 -- ---- all that may move
 
--- Whatever the moves from here lead to, the moves from there lead to it.
-pub record MovesOn (s : Setup) (line index : ℕ) (requests limit : Option ℕ) (from : ListRun) (w : Running) : Type 0 where
+-- Whatever the moves from here lead to, the moves from there lead to it. So many were made, and there may be no more than 35.
+pub record MovesOn (s : Setup) (line index moves : ℕ) (requests limit : Option ℕ) (from : ListRun) (w : Running) : Type 0 where
   pub run : ListRun
   pub goes : (t : ListRun) → PumpsOn s line index limit run t → PumpsOn s line index requests from t
   pub runs_all : RunsAll s w run
+  pub few : number (cluster_of s) index run + moves ≤ 35
 
 pub moves_start : (s : Setup) (line index : ℕ) (requests : Option ℕ) (r : ListRun) (w : Running) → RunsAll s w r
-    → MovesOn s line index requests requests r w
-moves_start s line index requests r w h = record { run = r; goes = λ t p. p; runs_all = h }
+    → MovesOn s line index 0 requests requests r w
+moves_start s line index requests r w h = record {
+  run = r;
+  goes = λ t p. p;
+  runs_all = h;
+  few = omega (arith, number_most (cluster_of s) index r);
+}
 
-pub moves_step : (s : Setup) (line index : ℕ) (requests limit next : Option ℕ) (from : ListRun) (w new : Running)
-    → (x : MovesOn s line index requests limit from w) → MovesOnce s line index limit x.run (Some next) new
-    → MovesOn s line index requests next from new
-moves_step s line index requests limit next from w new x m = record {
+pub moves_step : (s : Setup) (line index moves : ℕ) (requests limit next : Option ℕ) (from : ListRun) (w new : Running)
+    → (x : MovesOn s line index moves requests limit from w) → MovesOnce s line index limit x.run (Some next) new
+    → MovesOn s line index (moves + 1) requests next from new
+moves_step s line index moves requests limit next from w new x m = record {
   run = m.0;
   goes = λ t p. x.goes t (m.1 t p);
   runs_all = m.2;
+  few = omega (arith, x.few, m.3);
 }
 
-pub moves_end : (s : Setup) (line index : ℕ) (requests limit : Option ℕ) (from : ListRun) (w new : Running)
-    → (x : MovesOn s line index requests limit from w) → MovesOnce s line index limit x.run None new
+pub moves_end : (s : Setup) (line index moves : ℕ) (requests limit : Option ℕ) (from : ListRun) (w new : Running)
+    → (x : MovesOn s line index moves requests limit from w) → MovesOnce s line index limit x.run None new
     → (t : ListRun) × PumpsOn s line index requests from t × RunsAll s new t
-moves_end s line index requests limit from w new x m = (m.0, x.goes m.0 m.1, m.2)
+moves_end s line index moves requests limit from w new x m = (m.0, x.goes m.0 m.1, m.2)
 
 -- It stands for a run with all done, in which this session is.
 pub has_done : (s : Setup) (index : ℕ) (w : Running) (r : ListRun) → RunsAll s w r → index < length w.drivers.list.items → HasDone s index w

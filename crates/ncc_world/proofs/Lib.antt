@@ -39,6 +39,7 @@ pub mod Doing
 pub mod Joining
 pub mod Rising
 pub mod Waking
+pub mod Lessening
 pub mod Moves
 pub mod Listening
 pub mod Emptying

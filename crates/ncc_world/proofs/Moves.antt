@@ -1,5 +1,5 @@
 -- One move of a pump, and all of them.
-use Rattle.std.proofs.Common.{◌≡◌, ℕ, ◌-◌, ◌≤◌, Bool, true, false, cond, List, [], ◌∷◌, length, take}
+use Rattle.std.proofs.Common.{◌≡◌, ℕ, ◌-◌, ◌<◌, ◌≤◌, Bool, true, false, cond, List, [], ◌∷◌, length, take}
 use Rattle.std.proofs.Common.{Option, Some, None, refl, sym, ap, ◌∙◌, subst, arith, inl, inr}
 use Rattle.std.proofs.lemmas.List.{take_all}
 use Rattle.std.proofs.lemmas.Bool.Decides.{leb_tells}
@@ -7,14 +7,16 @@ use Rattle.std.specs.Prelude.{nat_le}
 use Rattle.ncc_driver.specs.LawsFits.{AreBytes}
 use Rattle.ncc_clients.specs.Links.{Link, Driver, Parcel, requests_in}
 use Rattle.ncc_clients.specs.Turn.{Settles}
-use Rattle.ncc_clients.specs.Drives.{driver_at, up_at, down_at, rises, descends, falls, all_bytes}
-use Rattle.ncc_clients.specs.Drives.{Rests, Stops, Lifts, Falls}
+use Rattle.ncc_clients.specs.Drives.{driver_at, up_at, down_at, is_reached, less, rises, descends, falls, all_bytes}
+use Rattle.ncc_clients.specs.Drives.{Pumps, Rests, Stops, Lifts, Falls}
 use Rattle.ncc_clients.specs.Held.{waiting_in, waiting_on}
+use Rattle.ncc_clients.proofs.Lowering.{number, rises_lower}
 use Rattle.ncc_world.specs.declared.setup.Setup.{Setup}
 use Rattle.ncc_world.specs.declared.running.Running.{Running}
 use Rattle.ncc_world.specs.Setting.{cluster_of}
 use Rattle.ncc_world.specs.Happening.{ListRun}
 use Rattle.ncc_world.specs.Parts.{MovesOnce, PumpsOn, RunsAll, left_after}
+use Rattle.ncc_world.proofs.Lessening.{IsShort, falls_lower}
 use Rattle.ncc_world.proofs.Rising.{falls_nothing, falls_same}
 
 -- ---- what waits to go up
@@ -52,12 +54,22 @@ none_waits r k d there e = subst (λ (o : Option Driver). up_at o ≡ []) (sym t
 moved_up : (s : Setup) (line k : ℕ) (limit : Option ℕ) (r m : ListRun) (new : Running) → (up_at (driver_at r k) ≡ [] → ⊥)
     → Settles (cluster_of s) line (rises (cluster_of s) k limit r) m → RunsAll s new m
     → MovesOnce s line k limit r (left_after limit (requests_in (up_at (driver_at r k)))) new
-moved_up s line k None r m new some settles h = (m, λ t p. (Lifts None r m t some refl settles p.0, p.1), h)
+moved_up s line k None r m new some settles h = (
+  m,
+  λ t p. (Lifts None r m t some refl settles p.0, p.1),
+  h,
+  rises_lower (cluster_of s) k None line r m some refl settles.turns,
+)
 moved_up s line k (Some count) r m new some settles h = go (nat_le count (requests_in (up_at (driver_at r k)))) refl where
   go : (b : Bool) → nat_le count (requests_in (up_at (driver_at r k))) ≡ b
       → MovesOnce s line k (Some count) r (cond b None (Some (Some (count - requests_in (up_at (driver_at r k)))))) new
   go true e = (m, (Stops (Some count) r m e settles, tt), h)
-  go false e = (m, λ t p. (Lifts (Some count) r m t some e settles p.0, p.1), h)
+  go false e = (
+    m,
+    λ t p. (Lifts (Some count) r m t some e settles p.0, p.1),
+    h,
+    rises_lower (cluster_of s) k (Some count) line r m some e settles.turns,
+  )
 
 -- All that may go up went up, and was answered.
 pub moves_up : (s : Setup) (line k : ℕ) (limit : Option ℕ) (r m : ListRun) (d : Driver) (n : ℕ) (new : Running) → driver_at r k ≡ Some d
@@ -97,14 +109,17 @@ moves_none s line k count limit r d new there e le none h =
 
 -- All that was written came down.
 pub moves_down : (s : Setup) (line k count : ℕ) (limit : Option ℕ) (r : ListRun) (d : Driver) (new : Running) → driver_at r k ≡ Some d
-    → None ≡ waiting_on d.link → length (down_at (cluster_of s) r (driver_at r k)) ≤ count
+    → IsShort d → None ≡ waiting_on d.link → length (down_at (cluster_of s) r (driver_at r k)) ≤ count
     → AreBytes (take count (down_at (cluster_of s) r (driver_at r k)))
     → true ≡ nat_le 1 (length (take count (down_at (cluster_of s) r (driver_at r k))))
     → RunsAll s new (falls (cluster_of s) line k r (driver_at r k) (take count)) → MovesOnce s line k limit r (Some limit) new
-moves_down s line k count limit r d new there e le bytes some h = (
+moves_down s line k count limit r d new there short e le bytes some h = (
   falls (cluster_of s) line k r (driver_at r k) (take count),
   λ t p. goes t (falls (cluster_of s) line k r (driver_at r k) (take count)) same p,
   h,
+  subst (λ (m : ListRun). number (cluster_of s) k m < number (cluster_of s) k r) (sym same)
+      (falls_lower (cluster_of s) k line r d there short (none_on d.link e)
+      (λ f. not_none (ap (λ (o : Option Driver). down_at (cluster_of s) r o) there ∙ f))),
 ) where
   down : List ℕ
   down = down_at (cluster_of s) r (driver_at r k)

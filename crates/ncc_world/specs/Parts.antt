@@ -22,13 +22,14 @@ use Rattle.ncc_clients.specs.Run.{question_of, last_rows}
 use Rattle.ncc_clients.specs.Links.{Driver}
 use Rattle.ncc_clients.specs.Drives.{Pumps, driver_at, feeds_some, with_driver}
 use Rattle.ncc_clients.specs.Held.{own}
+use Rattle.ncc_clients.proofs.Lowering.{number}
 use Rattle.ncc_driver.specs.declared.action.Action.{Action}
 use Rattle.ncc_tx.specs.declared.entry.Item.{Item}
 use Rattle.ncc_session.specs.Question.{Question, Row}
 use Rattle.ncc_clients.specs.Four.{Begins}
 use Rattle.ncc_clients.specs.Turn.{Settles, Turn, AtRest, Does, IsEntryOf, acts}
 use Rattle.ncc_world.specs.declared.setup.Setup.{Setup}
-use Rattle.ncc_world.specs.declared.served.Place.{Place}
+use Rattle.ncc_world.specs.declared.served.Placing.{Placing}
 use Rattle.ncc_world.specs.declared.served.Served.{Served}
 use Rattle.ncc_world.specs.declared.served.Change.{Change}
 use Rattle.ncc_world.specs.declared.served.Change.TheVariants as change
@@ -123,7 +124,7 @@ abbrev pub left_in : Clients → ℕ
 left_in k = sum_by left_at (values k.table)
 
 -- what a change does to that, where the connection's entry was proposed so
-abbrev pub Lowers : Change → Option Place → ℕ → ℕ → Type 0
+abbrev pub Lowers : Change → Option Placing → ℕ → ℕ → Type 0
 Lowers (change.Told fact) placing old new = new < old
 Lowers (change.Placed p) placing old new = placing ≡ None → new < old
 Lowers _ placing old new = Unit {0}
@@ -154,7 +155,7 @@ first_acting s r = first_where (acts (cluster_of s) r) r.clients
 
 -- ---- answers
 
-abbrev pub placed_at : Place → Placing
+abbrev pub placed_at : Placing → Placing
 placed_at p = record { place = p.place; term = p.term }
 
 abbrev pub reply_in : declared.Reply → Reply
@@ -188,7 +189,7 @@ RunsToLast g calls result =
     × IfOk result (λ r. last_rows (front ++ r.rows) ≡ last_rows r.rows) × IfOk result (λ r. IsOver g r.delta)
 
 -- what a question is answered by, of the connection
-pub record IsAskedOf (s : Setup) (now : ℕ) (member deadline : ℕ) (placing : Option Place) (r : ListRun) (c : Client) : Type 0 where
+pub record IsAskedOf (s : Setup) (now : ℕ) (member deadline : ℕ) (placing : Option Placing) (r : ListRun) (c : Client) : Type 0 where
   pub now_is : now ≡ r.now
   pub member_is : member ≡ c.member
   pub deadline_is : deadline ≡ deadline_of (cluster_of s) c
@@ -317,9 +318,10 @@ left_after None waiting = Some None
 left_after (Some count) waiting = if nat_le count waiting then None else Some (Some (count - waiting))
 
 -- One move of a pump: the last request that may go up went up and was answered, or nothing was left to move; or there is more to move, and
--- all that waited went up and was answered, or all that was written came down.
+-- all that waited went up and was answered, or all that was written came down, and a number is lower.
 abbrev pub MovesOnce : Setup → ℕ → ℕ → Option ℕ → ListRun → Option (Option ℕ) → Running → Type 0
 MovesOnce s line at limit r None new =
     (t : ListRun) × PumpsOn s line at limit r t × RunsAll s new t
 MovesOnce s line at limit r (Some next) new =
     (m : ListRun) × ((t : ListRun) → PumpsOn s line at next m t → PumpsOn s line at limit r t) × RunsAll s new m
+    × (number (cluster_of s) at m < number (cluster_of s) at r)

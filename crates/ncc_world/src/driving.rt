@@ -22,7 +22,11 @@ use crate::tasks::task;
 use ncc_clients::Effect;
 use ncc_driver::Input;
 use ncc_pack::{Bytes, Memory, Text};
-use std::alloc::{AllocError, Global};
+use std::alloc::Global;
+
+// After fewer moves nothing is left to move: an attempt sends at most eleven handshakes and requests, and between two of these one move up
+// and one down at most.
+const MOST_MOVES: u32 = 36;
 
 // How many more requests may go up behind so many that went up; none where the last did.
 fn left_after(limit: Option<u64>, waiting: u64) -> Option<Option<u64>>
@@ -421,12 +425,12 @@ impl Running {
             (t : ListRun) × PumpsOn setup.now line index requests r t × RunsAll setup.now self.new t) }
     {
         let mut limit = requests;
-        for _ in 0..u64::MAX {
+        for _ in 0..MOST_MOVES {
             match self.pump_once(alloc, setup, line, index, limit)? {
                 Some(next) => limit = next,
                 None => return Ok(()),
             }
         }
-        Err(AllocError)
+        unreachable!();
     }
 }

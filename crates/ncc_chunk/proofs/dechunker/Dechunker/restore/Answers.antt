@@ -1,12 +1,12 @@
 use Rattle.std.proofs.Common.{◌≡◌, ℕ, List, take, map, ap, ◌∙◌}
-use Rattle.ncc_chunk.specs.declared.dechunker.Place.{Place}
+use Rattle.ncc_chunk.specs.declared.dechunker.Position.{Position}
 use Rattle.ncc_chunk.specs.declared.dechunker.Dechunker.TheInside.{Inside}
 use Rattle.ncc_chunk.specs.Inflow.{Inflow}
 use Rattle.ncc_chunk.proofs.Lists.{restored_same, restored_more}
 use Rattle.ncc_chunk.proofs.dechunker.Dechunker.restore.Goals as goal
 use Rattle.ncc_chunk.proofs.dechunker.Dechunker.restore.Goals.{in-Some, in_default}
 
-same_state : (place : Place) (qs rs : List (List ℕ)) (a b : List ℕ) → qs ≡ rs → a ≡ b →
+same_state : (place : Position) (qs rs : List (List ℕ)) (a b : List ℕ) → qs ≡ rs → a ≡ b →
     (let s : Inflow = record { ready = qs; body = a; place = place } in
     let t : Inflow = record { ready = rs; body = b; place = place } in s ≡ t)
 same_state place qs rs a b e f = cc

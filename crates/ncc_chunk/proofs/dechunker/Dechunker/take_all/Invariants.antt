@@ -1,7 +1,7 @@
 use Rattle.std.proofs.Common.{◌≡◌, ◌≤◌, ◌-◌, length, take}
 use Rattle.ncc_chunk.specs.Chunks.{limit}
 use Rattle.ncc_chunk.specs.Keeping.{Took}
-use Rattle.ncc_chunk.specs.declared.dechunker.Place.TheVariants.{Stopped}
+use Rattle.ncc_chunk.specs.declared.dechunker.Position.TheVariants.{Stopped}
 use Rattle.ncc_chunk.proofs.dechunker.Dechunker.take_all.Given as goal
 
 abbrev pub invariant-loop-at : goal.invariant-loop-at

@@ -1,7 +1,7 @@
 use Rattle.std.proofs.Common.{◌≡◌, ◌++◌, ◌∷◌, [], ℕ, List, Option, Some, None, false, ◌≤◌, length}
 use Rattle.ncc_cypher.specs.Grammar.{Name, NotEmpty}
-use Rattle.ncc_cypher.specs.Place.{Place, Made, Body}
-use Rattle.ncc_cypher.specs.Place as p
+use Rattle.ncc_cypher.specs.Site.{Site, Made, Body}
+use Rattle.ncc_cypher.specs.Site as p
 use Rattle.ncc_cypher.specs.Opening as o
 use Rattle.ncc_cypher.specs.State as s
 use Rattle.ncc_cypher.specs.Machine.{scope, a_node}

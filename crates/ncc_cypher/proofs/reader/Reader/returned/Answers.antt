@@ -11,7 +11,7 @@ use Rattle.ncc_cypher.specs.declared.tree.Tail.{Tail}
 use Rattle.ncc_cypher.specs.declared.tree.Tail.TheVariants as l
 use Rattle.ncc_cypher.specs.Verb as v
 use Rattle.ncc_cypher.specs.Opening as o
-use Rattle.ncc_cypher.specs.Place as p
+use Rattle.ncc_cypher.specs.Site as p
 use Rattle.ncc_cypher.specs.State as s
 use Rattle.ncc_cypher.specs.Grammar.{Name, has}
 use Rattle.ncc_pack.specs.declared.value.Value.{Value}

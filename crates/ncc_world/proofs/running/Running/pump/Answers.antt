@@ -20,7 +20,7 @@ returns-in-None c = record {
       let x = c.loop.invariant.on r h in
       let m = subst (λ (o : Option (Option ℕ)). MovesOnce s c.args.line c.args.index c.loop.limit x.run o c.pump_once.new.self) c.in-None.is
       (c.in_ok-next.ensures.ok x.run x.runs_all) in
-      moves_end s c.args.line c.args.index c.args.requests c.loop.limit r c.loop.self c.pump_once.new.self x m;
+      moves_end s c.args.line c.args.index c.loop.counter c.args.requests c.loop.limit r c.loop.self c.pump_once.new.self x m;
 }
 
 pub loop-preserved : goal.loop-preserved
@@ -31,5 +31,5 @@ loop-preserved c = record {
       let x = c.loop.invariant.on r h in
       let m = subst (λ (o : Option (Option ℕ)). MovesOnce s c.args.line c.args.index c.loop.limit x.run o c.pump_once.new.self) c.in-Some.is
       (c.in_ok-next.ensures.ok x.run x.runs_all) in
-      moves_step s c.args.line c.args.index c.args.requests c.loop.limit c.in-Some.next r c.loop.self c.pump_once.new.self x m;
+      moves_step s c.args.line c.args.index c.loop.counter c.args.requests c.loop.limit c.in-Some.next r c.loop.self c.pump_once.new.self x m;
 }

@@ -1,5 +1,5 @@
 use Rattle.ncc_store.proofs.Drafts.{keyed_owned}
-use Rattle.ncc_store.proofs.props.Draft.into_dict.Goals as goal
+use Rattle.ncc_store.proofs.props.PropertyMap.into_dict.Goals as goal
 
 pub returns-in_err-dict-clause-keyed : goal.returns-in_err-dict-clause-keyed
 returns-in_err-dict-clause-keyed c = rw (← c.self.view_is) (keyed_owned c.self.inside.pairs.entries c.len.ensures.ordered)

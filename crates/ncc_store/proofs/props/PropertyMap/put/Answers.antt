@@ -1,5 +1,5 @@
 use Rattle.ncc_store.proofs.Drafts.{put_null, put_other}
-use Rattle.ncc_store.proofs.props.Draft.put.Goals as goal
+use Rattle.ncc_store.proofs.props.PropertyMap.put.Goals as goal
 
 pub returns-in-Null : goal.returns-in-Null
 returns-in-Null c =

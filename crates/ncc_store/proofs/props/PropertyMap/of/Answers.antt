@@ -1,6 +1,6 @@
 use Rattle.std.proofs.Common.{ap, ◌∙◌}
 use Rattle.ncc_store.proofs.Drafts.{one_more}
-use Rattle.ncc_store.proofs.props.Draft.of.Goals as goal
+use Rattle.ncc_store.proofs.props.PropertyMap.of.Goals as goal
 
 pub loop-pair-preserved : goal.loop-pair-preserved
 loop-pair-preserved c =

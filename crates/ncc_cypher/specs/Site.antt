@@ -21,7 +21,7 @@ pub record Body : Type 0 where
   pub made : Made
   pub change : Change
 
-pub data Place : Type 0 where
-  InPair : Node → List Pair → List ℕ → Place
-  InSet : Made → List Pair → List ℕ → Place
-  InItem : Body → List Item → Place
+pub data Site : Type 0 where
+  InPair : Node → List Pair → List ℕ → Site
+  InSet : Made → List Pair → List ℕ → Site
+  InItem : Body → List Item → Site
