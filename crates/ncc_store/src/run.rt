@@ -15,7 +15,7 @@ ghost use Rattle.ncc_store.specs.Props.{IsKeyed, ArePlain, put};
 use crate::fault::{RunError, RunFault};
 use crate::node::{StoredNode, kept};
 use crate::overlay::Overlay;
-use crate::props::{PropertyMap, Params};
+use crate::props::{Params, PropertyMap};
 use crate::ran::{Delta, Ran};
 use crate::rows::returned;
 use crate::scalar::Scalar;

@@ -9,7 +9,7 @@ ghost use Rattle.ncc_store.specs.Bound.{props_in, IsReady};
 
 use crate::fault::{RunError, RunFault};
 use crate::node::StoredNode;
-use crate::props::{PropertyMap, Params, value_at};
+use crate::props::{Params, PropertyMap, value_at};
 use crate::scalar::{Scalar, plus, scalar_of};
 use ncc_cypher::{Expr, Term};
 use ncc_pack::{Memory, Value};
