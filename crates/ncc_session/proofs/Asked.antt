@@ -307,6 +307,12 @@ fine_at : (ended : Bool) (d : Doing) (q : Question) → (if ended then None else
 fine_at true d q e h = absurd (cc)
 fine_at false d q e h = fine_in d q e h
 
+pub asks_fine : (config : ConnConfig) (bytes : List ℕ) (facts : List Fact) (q : Question)
+    → asked_at (session config bytes facts).core ≡ Some q → MayAsk q
+asks_fine config bytes facts q e =
+    let s = session config bytes facts in
+    fine_at (is_ended s.core.state) s.core.doing q e (session_fine config bytes facts)
+
 pub asked_is : (spent : Bool) (p : Situation) (q : Question) (n : Next) → spent ≡ false → is_ended p.state ≡ false → p.doing ≡ asks q n
     → (if spent then None else asked_at p) ≡ Some q
 asked_is spent p q n e f g =

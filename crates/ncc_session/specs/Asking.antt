@@ -7,6 +7,7 @@ use Rattle.ncc_session.specs.declared.state.ConnState.TheVariants.{Ended}
 use Rattle.ncc_session.specs.declared.state.ConnStop.TheVariants as stop
 use Rattle.ncc_session.specs.declared.ask.Fact.{Fact}
 use Rattle.ncc_session.specs.Question.{Question, Output, questions_of, fits}
+use Rattle.ncc_session.specs.Turns.{MayAsk}
 use Rattle.ncc_session.specs.Session.{Standing, session, asked_at}
 
 -- the question that waits, as a list
@@ -34,6 +35,13 @@ AsksOnFacts =
     (config : ConnConfig) (bytes : List ℕ) (facts : List Fact) (question : Question) (fact : Fact)
     → (session config bytes facts).facts ≡ [] → asked_at (session config bytes facts).core ≡ Some question
     → fits question fact ≡ true → WentOn (session config bytes facts) (session config bytes (facts ++ fact ∷ []))
+
+-- Whatever came in and was told, the question that waits is one that may be asked: the entry of a transaction that writes may stand in
+-- a log.
+abbrev pub MayAskEach : Type 0
+MayAskEach =
+    (config : ConnConfig) (bytes : List ℕ) (facts : List Fact) (question : Question)
+    → asked_at (session config bytes facts).core ≡ Some question → MayAsk question
 
 -- No message is refused for want of memory.
 abbrev pub NeverForMemory : Type 0
