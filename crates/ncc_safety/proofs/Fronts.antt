@@ -11,7 +11,7 @@ use Rattle.ncc_raft.specs.Logs.{Conflict, first_conflict}
 use Rattle.ncc_raft.specs.Appending.{applied}
 use Rattle.ncc_raft.specs.Pulled as pulled
 use Rattle.ncc_raft.specs.Pulled.{Taken, Grown, Gap, Stale, Contradicted, taken}
-use Rattle.ncc_safety.specs.Cluster.{Records, Cluster, moved, beside, grown, history_of, no_records, start}
+use Rattle.ncc_safety.specs.Cluster.{Records, Cluster, moved, beside, all_applied, grown, history_of, no_records, start}
 use Rattle.ncc_safety.specs.Sentences.{Chosen, IsCommitted, Front, Placed, IsPlaced}
 use Rattle.ncc_safety.specs.Steps.{Step, Raises, Stands, Votes, Repeats, Refuses, Counts, Wins, Follows, Takes, Tells, Notes, Advances, Writes, Sends, Restarts, Pulled, Serves, Extends, Forgets, Looks}
 use Rattle.ncc_safety.proofs.Puts.{put_all}
@@ -147,10 +147,13 @@ fronts_of : (n : ℕ) (g : Records) (f : ℕ → List Item) (js : List ℕ) → 
 fronts_of n g f [] h = tt
 fronts_of n g f (j ∷ js) h = (h j, fronts_of n g f js h)
 
+pub applied_fronts : (c : Cluster) → Commits c → Fronts c → AllFronts c.cores c.records (all_applied c.cores c.replicas c.at c.lists)
+applied_fronts c k f = fronts_join c.cores c.records _ _
+    (fronts_of c.cores c.records (λ i. applied (c.at i)) (cores_of c.cores) (λ i. applied_front c i k))
+    (fronts_of c.cores c.records c.lists (range_with_len (c.cores + 1) c.replicas) f.lists)
+
 history_front : (c : Cluster) → Commits c → Fronts c → Front c.cores c.records (history_of c)
-history_front c k f = grown_front c.cores c.records c.history _ f.history
-    (fronts_join c.cores c.records _ _ (fronts_of c.cores c.records (λ i. applied (c.at i)) (cores_of c.cores) (λ i. applied_front c i k))
-    (fronts_of c.cores c.records c.lists (range_with_len (c.cores + 1) c.replicas) f.lists))
+history_front c k f = grown_front c.cores c.records c.history _ f.history (applied_fronts c k f)
 
 -- ---- each step
 

@@ -142,11 +142,11 @@ grown_long history (x ∷ xs) = let a = grown_long (if nat_lt (length history) (
     go false e = omega arith
 
 -- no list among them is longer
-abbrev NoLonger : List Item → List (List Item) → Type 0
+abbrev pub NoLonger : List Item → List (List Item) → Type 0
 NoLonger history [] = Unit {0}
 NoLonger history (x ∷ xs) = (length x ≤ length history) × NoLonger history xs
 
-grown_longest : (history : List Item) (lists : List (List Item)) → NoLonger (grown history lists) lists
+pub grown_longest : (history : List Item) (lists : List (List Item)) → NoLonger (grown history lists) lists
 unfolding grown
 grown_longest history [] = tt
 grown_longest history (x ∷ xs) = let a = grown_long (if nat_lt (length history) (length x) then x else history) xs in let b =
@@ -206,7 +206,7 @@ step_history c d (Extends j from first items log s e) = omega arith
 step_history c d (Forgets j) = omega arith
 step_history c d Looks = grown_long c.history (all_applied c.cores c.replicas c.at c.lists)
 
-history_longer : (c d : Cluster) → Steps c d → length c.history ≤ length d.history
+pub history_longer : (c d : Cluster) → Steps c d → length c.history ≤ length d.history
 history_longer c d Still = omega arith
 history_longer c e (Then {d = d} ss s) = let a = history_longer c d ss in let b = step_history d e s in omega arith
 

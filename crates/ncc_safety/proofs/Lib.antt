@@ -24,4 +24,10 @@ pub mod Quiet
 pub mod Beside
 pub mod Worlds
 pub mod Overall
+pub mod Offers
+pub mod Forward
+pub mod Fleets
+pub mod FleetLaws
+pub mod Carrying
 pub mod Example
+pub mod FleetExample

@@ -24,7 +24,7 @@ is_log : (g : Records) (xs : List Item) → ((t : ℕ) → Within t (g.lead t)) 
 is_log g xs w s = record { rises = rises g xs w s; sound = s }
 
 -- what begins a sound list is sound
-front_sound : (g : Records) (xs ys : List Item) → Agree (length xs) xs ys → Sound g ys → Sound g xs
+pub front_sound : (g : Records) (xs ys : List Item) → Agree (length xs) xs ys → Sound g ys → Sound g xs
 front_sound g xs ys a s k x e =
     let w = slice_get_within xs k x e in
     let b = s k x (sym (a k w) ∙ e) in

@@ -1,5 +1,6 @@
 -- Lists with a slot for each core, which are read past the end as a default.
-use Rattle.std.proofs.Common.{◌≡◌, ℕ, zero, suc, ◌≤◌, List, [], ◌∷◌, replicate, slice_index_or, slice_set, ◌⊎◌, refl, inl, inr, arith}
+use Rattle.std.proofs.Common.{◌≡◌, ℕ, zero, suc, ◌+◌, ◌<◌, ◌≤◌, List, [], ◌∷◌, ◌++◌, length, map, replicate, slice_get, slice_index_or, slice_set, Some, ◌⊎◌, refl, sym, ap, ◌∙◌, subst, inl, inr, arith}
+use Rattle.std.specs.List.{range_with_len}
 
 -- what is read after a change: the new, or what was there
 pub slot_cases : {A : Type 0} → (xs : List A) (i k : ℕ) (x d : A) →
@@ -27,3 +28,28 @@ pub slot_bound : (n k x : ℕ) → slice_index_or (replicate n x) k 0 ≤ x
 slot_bound zero k x = omega arith
 slot_bound (suc n) zero x = omega arith
 slot_bound (suc n) (suc k) x = slot_bound n k x
+
+-- ---- lists with one element changed
+
+pub set_left : {A : Type 0} → (xs ys : List A) (i : ℕ) (x : A) → i < length xs → slice_set xs i x ++ ys ≡ slice_set (xs ++ ys) i x
+set_left [] ys i x l = absurd (omega arith)
+set_left (y ∷ xs) ys zero x l = refl
+set_left (y ∷ xs) ys (suc i) x l = ap (λ zs. y ∷ zs) (set_left xs ys i x (omega arith))
+
+pub set_right : {A : Type 0} → (xs ys : List A) (i : ℕ) (x : A) → xs ++ slice_set ys i x ≡ slice_set (xs ++ ys) (length xs + i) x
+set_right [] ys i x = let e : 0 + i ≡ i = omega arith in ap (λ n. slice_set ys n x) (sym e)
+set_right (y ∷ xs) ys i x =
+    let e : suc (length xs) + i ≡ suc (length xs + i) = omega arith in
+    ap (λ zs. y ∷ zs) (set_right xs ys i x) ∙ ap (λ n. slice_set (y ∷ (xs ++ ys)) n x) (sym e)
+
+-- ---- lists of what a table has
+
+-- a table that has the elements of a list, from a number on
+pub map_range : {A : Type 0} → (f : ℕ → A) (a : ℕ) (xs : List A) → ((k : ℕ) (x : A) → slice_get xs k ≡ Some x → f (a + k) ≡ x) →
+    map f (range_with_len a (length xs)) ≡ xs
+map_range f a [] h = refl
+map_range f a (x ∷ xs) h =
+    let z : a + 0 ≡ a = omega arith in
+    let e : f a ≡ x = subst (λ n. f n ≡ x) z (h 0 x refl) in
+    let r = map_range f (a + 1) xs (λ k y q. let s : a + suc k ≡ a + 1 + k = omega arith in subst (λ n. f n ≡ y) s (h (suc k) y q)) in
+    ap (λ y. y ∷ map f (range_with_len (a + 1) (length xs))) e ∙ ap (λ ys. x ∷ ys) r

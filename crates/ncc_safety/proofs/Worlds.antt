@@ -25,7 +25,7 @@ get_past : (xs ys : List Envelope) (k : ℕ) → slice_get (xs ++ ys) (length xs
 get_past [] ys k = let e : 0 + k ≡ k = omega arith in rw e
 get_past (x ∷ xs) ys k = let e : suc (length xs) + k ≡ suc (length xs + k) = omega arith in rw e (get_past xs ys k)
 
-get_either : (xs ys : List Envelope) (k : ℕ) (e : Envelope) → slice_get (xs ++ ys) k ≡ Some e →
+pub get_either : (xs ys : List Envelope) (k : ℕ) (e : Envelope) → slice_get (xs ++ ys) k ≡ Some e →
     ((p : ℕ) × (slice_get xs p ≡ Some e)) ⊎ ((p : ℕ) × (slice_get ys p ≡ Some e))
 get_either [] ys k e q = inr (k, q)
 get_either (x ∷ xs) ys zero e q = inl (zero, q)
@@ -86,7 +86,7 @@ can_come w c core.Beat a s = tt
 can_come w c (core.Propose entry) a s = tt
 can_come w c (core.Receive e) a s = a.sent s.0 e s.1
 
-same_outcome : (w : Plain) (c : Cluster) (i : ℕ) (event : core.Event) → Agrees w c → is_core w.cores i ≡ true →
+pub same_outcome : (w : Plain) (c : Cluster) (i : ℕ) (event : core.Event) → Agrees w c → is_core w.cores i ≡ true →
     outcome c i event ≡ plain_outcome w i event
 same_outcome w c i event a b =
     ap (λ n. step (record { id = i; cores = n; limit = c.limit }) (c.at i) event) a.cores
@@ -220,7 +220,7 @@ map_same f g a (suc n) h =
     let r = map_same f g (a + 1) n (λ i lo hi. h i (omega arith) (omega arith)) in
     ap (λ z. z ∷ map f (range_with_len (a + 1) n)) x ∙ ap (λ z. g a ∷ z) r
 
-core_in : (n i : ℕ) → 1 ≤ i → i < 1 + n → is_core n i ≡ true
+pub core_in : (n i : ℕ) → 1 ≤ i → i < 1 + n → is_core n i ≡ true
 unfolding is_core
 core_in n i lo hi = and_from (nat_lt 0 i) (nat_le i n) (lt-ltb 0 i (omega arith)) (le-leb i n (omega arith))
 
@@ -228,7 +228,7 @@ replica_in : (w : Plain) (j : ℕ) → w.cores + 1 ≤ j → j < w.cores + 1 + w
 replica_in w j lo hi = and_from (nat_lt w.cores j) (nat_le j (w.cores + w.replicas)) (lt-ltb w.cores j (omega arith))
     (le-leb j (w.cores + w.replicas) (omega arith))
 
-all_same : (w : Plain) (c : Cluster) → Agrees w c →
+pub all_same : (w : Plain) (c : Cluster) → Agrees w c →
     all_applied c.cores c.replicas c.at c.lists ≡ all_applied w.cores w.replicas w.at w.lists
 all_same w c a =
     let x = map_same (λ i. applied (c.at i)) (λ i. applied (w.at i)) 1 w.cores
@@ -239,18 +239,17 @@ all_same w c a =
     ∙ ap (λ z. z ++ map c.lists (range_with_len (w.cores + 1) w.replicas)) x
     ∙ ap (λ z. map (λ i. applied (w.at i)) (cores_of w.cores) ++ z) y
 
+pub looks_agree : (w : Plain) (c : Cluster) → Agrees w c → Agrees (looked_at w) (looked c)
+looks_agree w c a = record {
+  cores = a.cores;
+  replicas = a.replicas;
+  limit = a.limit;
+  at = a.at;
+  lists = a.lists;
+  sent = a.sent;
+  history = ap (λ h. grown h (all_applied c.cores c.replicas c.at c.lists)) a.history ∙ ap (λ z. grown w.history z) (all_same w c a);
+}
+
 -- the history is looked at
 pub world_looks : (w : Plain) (c : Cluster) → Agrees w c → Follows (looked_at w) c
-world_looks w c a = record {
-  to = looked c;
-  steps = one_step c (looked c) Looks;
-  agrees = record {
-    cores = a.cores;
-    replicas = a.replicas;
-    limit = a.limit;
-    at = a.at;
-    lists = a.lists;
-    sent = a.sent;
-    history = ap (λ h. grown h (all_applied c.cores c.replicas c.at c.lists)) a.history ∙ ap (λ z. grown w.history z) (all_same w c a);
-  };
-}
+world_looks w c a = record { to = looked c; steps = one_step c (looked c) Looks; agrees = looks_agree w c a }

@@ -6,3 +6,5 @@ pub mod Sentences
 pub mod Nine
 pub mod Laws
 pub mod Plain
+pub mod Fleet
+pub mod FleetLaws

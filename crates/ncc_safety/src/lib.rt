@@ -8,6 +8,11 @@ ghost use Rattle.ncc_safety.specs.Laws.{AppendsCut, LogsMatch, Matched};
 ghost use Rattle.ncc_safety.specs.Laws.{ChosenStays, RecordsBeside};
 ghost use Rattle.ncc_safety.specs.Laws.{AllOneLine, Applied, HistoryGrows, InHistory, NeverNoted, NeverRefused};
 ghost use Rattle.ncc_safety.specs.Nine.{Stays};
+ghost use Rattle.ncc_safety.specs.FleetLaws.{CanBeCarried, CoresAreSound, OnlyAllowed};
+ghost use Rattle.ncc_safety.specs.FleetLaws.{FullAtLimit, HistoryGoesOn, ListsBegin, MovesKeep};
+ghost use Rattle.ncc_safety.specs.FleetLaws.{PlacedApart, PlacedBehind, PlacedStays, PlacedWithin};
+ghost use Rattle.ncc_safety.specs.FleetLaws.{KeepsShape, NeverContradicts, NeverNotes, ProposalsKeep, RefusesElsewhere, RestartsKeep};
+ghost use Rattle.ncc_safety.specs.FleetLaws.{StaysWithin};
 
 /// A term has one leader, whatever happens, and its log only grows in its term.
 pub fn one_owner()
@@ -42,4 +47,31 @@ pub fn one_history()
 /// The records stand beside a run: members, messages and history never hang on them.
 pub fn records_beside()
     ensures beside { RecordsBeside }
+{}
+
+/// Of a cluster as a world keeps it: every applied list begins the history, which only grows; a list shrinks only where its member
+/// starts again; an entry that got a place and a term keeps them, and no other gets both.
+pub fn fleet_agrees()
+    ensures begins { ListsBegin }
+    ensures grows { HistoryGoesOn }
+    ensures moves { MovesKeep }
+    ensures proposals { ProposalsKeep }
+    ensures restarts { RestartsKeep }
+    ensures stays { PlacedStays }
+    ensures behind { PlacedBehind }
+    ensures within { PlacedWithin }
+    ensures apart { PlacedApart }
+    ensures elsewhere { RefusesElsewhere }
+    ensures full { FullAtLimit }
+{}
+
+/// No message contradicts a member of it or goes past the limit, a frame can carry each, and logs and lists stay within their limits.
+pub fn fleet_holds()
+    ensures shape { KeepsShape }
+    ensures notes { NeverNotes }
+    ensures batches { NeverContradicts }
+    ensures limits { StaysWithin }
+    ensures carried { CanBeCarried }
+    ensures cores { CoresAreSound }
+    ensures allowed { OnlyAllowed }
 {}
