@@ -28,6 +28,8 @@ pub mod Offers
 pub mod Forward
 pub mod Fleets
 pub mod FleetLaws
+pub mod Lasting
 pub mod Carrying
+pub mod Allowing
 pub mod Example
 pub mod FleetExample

@@ -111,20 +111,20 @@ pub record IsWithin (shape : Shape) (x : Seen) : Type 0 where
 abbrev pub StaysWithin : Type 0
 StaysWithin = Ever IsWithin
 
--- In a small fleet each message that was sent can be carried by a frame,
-abbrev pub CanBeCarried : Type 0
-CanBeCarried = Ever (λ shape x. IsSmall shape → (e : Envelope) → WasSent x.fleet e → Carried e)
-
--- each core is one,
-abbrev pub CoresAreSound : Type 0
-CoresAreSound = Ever (λ shape x. IsSmall shape → (i : ℕ) → is_core shape.cores i ≡ true →
-    IsCore (record { seat = seat_at shape i; member = core_at shape x.fleet i }))
-
--- and history, logs and lists have entries that a log may have.
+-- History, logs and lists have entries that a log may have.
 pub record HasAllowed (shape : Shape) (x : Seen) : Type 0 where
   pub history : AllAllowed x.history
   pub logs : (i : ℕ) → is_core shape.cores i ≡ true → AllAllowed (core_at shape x.fleet i).log
   pub lists : (member : ℕ) → AllAllowed (applied_at x.fleet member)
 
 abbrev pub OnlyAllowed : Type 0
-OnlyAllowed = Ever (λ shape x. IsSmall shape → HasAllowed shape x)
+OnlyAllowed = Ever HasAllowed
+
+-- In a small fleet each message that was sent can be carried by a frame,
+abbrev pub CanBeCarried : Type 0
+CanBeCarried = Ever (λ shape x. IsSmall shape → (e : Envelope) → WasSent x.fleet e → Carried e)
+
+-- and each core is one.
+abbrev pub CoresAreSound : Type 0
+CoresAreSound = Ever (λ shape x. IsSmall shape → (i : ℕ) → is_core shape.cores i ≡ true →
+    IsCore (record { seat = seat_at shape i; member = core_at shape x.fleet i }))

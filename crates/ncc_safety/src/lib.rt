@@ -65,13 +65,14 @@ pub fn fleet_agrees()
     ensures full { FullAtLimit }
 {}
 
-/// No message contradicts a member of it or goes past the limit, a frame can carry each, and logs and lists stay within their limits.
+/// No message contradicts a member of it or goes past the limit; logs and lists stay within it, with entries that a log may have. With
+/// as few members as frames are made for, a frame can carry each message.
 pub fn fleet_holds()
     ensures shape { KeepsShape }
     ensures notes { NeverNotes }
     ensures batches { NeverContradicts }
     ensures limits { StaysWithin }
+    ensures allowed { OnlyAllowed }
     ensures carried { CanBeCarried }
     ensures cores { CoresAreSound }
-    ensures allowed { OnlyAllowed }
 {}

@@ -1,6 +1,7 @@
 -- The laws are the lemmas.
 use Rattle.ncc_safety.proofs.FleetLaws.{keeps_shape, never_notes, never_contradicts, stays_within}
-use Rattle.ncc_safety.proofs.Carrying.{can_be_carried, cores_are_sound, only_allowed}
+use Rattle.ncc_safety.proofs.Carrying.{can_be_carried, cores_are_sound}
+use Rattle.ncc_safety.proofs.Allowing.{only_allowed}
 use Rattle.ncc_safety.proofs.fleet_holds.Goals as goal
 
 pub returns : goal.returns
@@ -9,7 +10,7 @@ returns c = record {
   notes = never_notes;
   batches = never_contradicts;
   limits = stays_within;
+  allowed = only_allowed;
   carried = can_be_carried;
   cores = cores_are_sound;
-  allowed = only_allowed;
 }
