@@ -12,7 +12,7 @@ use Rattle.ncc_clients.specs.declared.told.Told.{Told as Saying}
 use Rattle.ncc_clients.specs.Members.{Cluster, Proposed, elsewhere, full, placed, applied}
 use Rattle.ncc_clients.specs.Run.{Run, Client, Placing, begun, ticked, opened, fed, with_bytes, told_to, with_fact, moved, accepted}
 use Rattle.ncc_clients.specs.Run.{with_placing, proposed, closed_at}
-use Rattle.ncc_clients.specs.Moment.{Proposes, Small, Ticks, Opens, Feeds, Tells, Offers, Moves, Drives, Closes, Path, Here, Then}
+use Rattle.ncc_clients.specs.Moment.{Proposes, Small, Ticks, Opens, Feeds, Tells, Offers, Moves, Restarts, Drives, Closes, Path, Here, Then}
 use Rattle.ncc_clients.specs.Four.{Four, Accepts}
 use Rattle.ncc_clients.specs.Laws.{is_place, PlacesAreApart}
 use Rattle.ncc_clients.proofs.Lists.{Starts, one, all_or, get_starts, count_push, count_set}
@@ -255,6 +255,8 @@ module _ {S : Type 0} (C : Cluster S) (start : S) (four : Four C start) where
       offers_apart end.history line r i c entry (C.propose r.members c.member entry) refl (Offers line r i c entry p) from p k
   small_apart r s end (Moves _ members m) from to_end k =
       fewer end.history r (moved C r members) (Moves r members m) (λ place. omega arith) k
+  small_apart r s end (Restarts _ member members m none) from to_end k =
+      fewer end.history r (moved C r members) (Restarts r member members m none) (λ place. omega arith) k
   small_apart r s end (Drives _ driving) from to_end k =
       fewer end.history r (record r { driving = driving }) (Drives r driving) (λ place. omega arith) k
   small_apart r s end (Closes _ i c is) from to_end k =

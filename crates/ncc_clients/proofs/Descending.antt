@@ -24,13 +24,13 @@ use Rattle.ncc_clients.specs.Links.{Link, Driver, Parcel}
 use Rattle.ncc_clients.specs.Run.{Run, Client, out_of}
 use Rattle.ncc_clients.specs.Drives.{driver_at, with_driver, member_named, waits_above, held_back, does_more, follows_on, comes_down}
 use Rattle.ncc_clients.specs.Drives.{with_input, falls, falls_by, descends, all_bytes, up_at, down_at}
+use Rattle.ncc_clients.specs.Measure.{weight, ups, number, number_by}
 use Rattle.ncc_clients.proofs.Lists.{set_same}
 use Rattle.ncc_clients.proofs.Parcels.{drop_more}
 use Rattle.ncc_clients.proofs.Driving.{session_told, told_last, more_is}
 use Rattle.ncc_clients.proofs.Inputs.{last_is, last_split}
 use Rattle.ncc_clients.specs.Drives.{last_of, joined, more}
 use Rattle.ncc_clients.proofs.Counted.{waits_behind, either, on_counts, shake_sends}
-use Rattle.ncc_clients.proofs.Lowering.{weight, ups, number, number_by}
 use Rattle.ncc_clients.proofs.Falling.{AllDown, Stays, links_behind, told_more}
 
 abbrev nil : List ℕ

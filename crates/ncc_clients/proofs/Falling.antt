@@ -15,9 +15,9 @@ use Rattle.ncc_clients.specs.Drives.{driver_at, with_driver, closes, closes_one,
 use Rattle.ncc_clients.specs.Drives.{joins_named, member_named, parts, does, does_by}
 use Rattle.ncc_clients.specs.Drives.{does_all, does_more, ends, knows, sends, waits_above, with_input}
 use Rattle.ncc_clients.proofs.Driving.{told_last, more_is}
+use Rattle.ncc_clients.specs.Measure.{ups}
 use Rattle.ncc_clients.proofs.Lists.{set_same}
 use Rattle.ncc_clients.proofs.Counted.{waits_behind}
-use Rattle.ncc_clients.proofs.Lowering.{ups}
 
 module _ {S : Type 0} (C : Cluster S) where
   -- a link is made

@@ -11,19 +11,20 @@ use Rattle.ncc_session.specs.Question.{Question, leave, fits}
 use Rattle.ncc_session.specs.Session.{asked_at}
 use Rattle.ncc_clients.specs.declared.told.Told.{Told as Saying}
 use Rattle.ncc_clients.specs.Members.{Cluster, Proposed, elsewhere, full, placed, at_of, config_of}
-use Rattle.ncc_clients.specs.Run.{Run, Client, Placing, begun, talk_of, question_of, ticked, opened, fed, with_bytes, told_to}
+use Rattle.ncc_clients.specs.Run.{Run, Client, Placing, begun, talk_of, question_of, has_ended, ticked, opened, fed, with_bytes, told_to}
 use Rattle.ncc_clients.specs.Run.{with_fact, moved, accepted, with_placing, proposed, closed_at}
-use Rattle.ncc_clients.specs.Moment.{IsOpen, Proposes, Small, Ticks, Opens, Feeds, Tells, Offers, Moves, Drives, Closes, Path, Here, Then}
+use Rattle.ncc_clients.specs.Moment.{IsOpen, Proposes, Small, Ticks, Opens, Feeds, Tells, Offers, Moves, Restarts, Drives, Closes, Path, Here, Then}
 use Rattle.ncc_clients.specs.Four.{Four, Accepts}
 use Rattle.ncc_clients.specs.Lawful.{place_of}
 use Rattle.ncc_clients.specs.Laws.{facts_to}
 use Rattle.ncc_clients.proofs.Lists.{all_weaker, all_append, get_push, get_set, get_within, set_length}
 use Rattle.ncc_clients.proofs.Known.{Known}
+use Rattle.ncc_clients.proofs.Lives.{asks_live, lives_asking, live_before}
 use Rattle.ncc_clients.proofs.Paths.{path_more}
 use Rattle.ncc_clients.proofs.Says.{is_said, is_offered}
 use Rattle.ncc_clients.proofs.Fits.{same_test, said_fits, said_below, said_enters}
 use Rattle.ncc_clients.proofs.Asked.{Enters, asks_fresh, asks_still, asks_bytes, asks_fact, reached_fact}
-use Rattle.ncc_clients.proofs.Sound.{Waits, Sound, AllSound, live_more, further, stays_sound}
+use Rattle.ncc_clients.proofs.Sound.{Waits, Live, Sound, AllSound, live_more, further, stays_sound}
 
 -- ---- the facts told to a connection, with one more told
 
@@ -116,7 +117,7 @@ module _ {S : Type 0} (C : Cluster S) (start : S) (known : Known) (four : Four C
   told_sound line r i c q fact is asks fit less enters k =
       let waits = asked_is c (Some q) is.live asks in
       let went = known.on_facts (config_of C c.number) c.bytes c.facts q fact k.served.taken waits fit in
-      let l = k.live is.live in
+      let l = k.live (asks_live C c q asks) in
       record {
         served = record {
           number = k.served.number;
@@ -159,17 +160,24 @@ module _ {S : Type 0} (C : Cluster S) (start : S) (known : Known) (four : Four C
 
   -- ---- bytes come in
 
+  -- who is live with them was so before
+  fed_live : (r : Run S) (i : ℕ) (c : Client) (piece : List ℕ) → Small C r (fed C r i c piece) → (k : Sound C start r i c)
+      → has_ended C (with_bytes C r.now c piece) ≡ false → Live C start (fed C r i c piece) i c k.asks.answered
+  fed_live r i c piece h k alive =
+      live_more C start r (fed C r i c piece) h i c k.asks.answered (omega arith)
+      (k.live (live_before C known r.now c piece k.served.taken alive))
+
   fed_sound : (r : Run S) (i : ℕ) (c : Client) (piece : List ℕ) (o : Option Question) → asked_at (talk_of C c).core ≡ o
       → Small C r (fed C r i c piece) → IsOpen r i c → Sound C start r i c
       → Sound C start (fed C r i c piece) i (with_bytes C r.now c piece)
   unfolding asks_still asks_bytes
   fed_sound r i c piece None asked_ h is k =
       let went = known.on_bytes (config_of C c.number) c.bytes piece c.facts k.served.taken asked_ in
-      let l = live_more C start r (fed C r i c piece) h i c k.asks.answered (omega arith) (k.live is.live) in
       record {
         served = record { number = k.served.number; facts = k.served.facts; taken = went.taken };
         asks = asks_bytes (talk_of C c) (talk_of C (with_bytes C r.now c piece)) c.facts went asked_ k.asks;
-        live = λ open_. record { below = l.below; reached = l.reached; waits = none c.placing l.waits };
+        live = λ alive.
+            let l = fed_live r i c piece h k alive in record { below = l.below; reached = l.reached; waits = none c.placing l.waits };
       }
     where
       none : (o : Option Placing) → Waits C start (fed C r i c piece) i c o
@@ -179,13 +187,13 @@ module _ {S : Type 0} (C : Cluster S) (start : S) (known : Known) (four : Four C
           let q = Some (leave_of w.proposal.entry) in let f : None ≡ q = sym asked_ ∙ asked_is c q is.live w.proposal.asks in cc)
   fed_sound r i c piece (Some q) asked_ h is k =
       let st = known.stands_still (config_of C c.number) c.bytes piece c.facts q k.served.taken asked_ in
-      let l = live_more C start r (fed C r i c piece) h i c k.asks.answered (omega arith) (k.live is.live) in
       let same : question_of C c ≡ question_of C (with_bytes C r.now c piece) =
       ap (λ p. if c.closed then None else asked_at p) (sym st.core) in
       record {
         served = record { number = k.served.number; facts = k.served.facts; taken = st.taken };
         asks = asks_still (talk_of C c) (talk_of C (with_bytes C r.now c piece)) c.facts st k.asks;
-        live = λ open_. record { below = l.below; reached = l.reached; waits = still same c.placing l.waits };
+        live = λ alive.
+            let l = fed_live r i c piece h k alive in record { below = l.below; reached = l.reached; waits = still same c.placing l.waits };
       }
     where
       still : question_of C c ≡ question_of C (with_bytes C r.now c piece) → (o : Option Placing) → Waits C start (fed C r i c piece) i c o
@@ -222,7 +230,7 @@ module _ {S : Type 0} (C : Cluster S) (start : S) (known : Known) (four : Four C
       → Sound C start r i c
       → Sound C start (accepted C r i c place term after) i (with_placing r.now c place term)
   accepted_sound r i c entry place term after h from a k =
-      let is = a.proposes.there in
+      let is = lives_asking C r i c (leave_of entry) a.proposes.there.there a.proposes.entry_is in
       let l = live_more C start r (accepted C r i c place term after) h i c k.asks.answered
       (further C start r (accepted C r i c place term after) h four from i c is) (k.live is.live) in
       record {
@@ -315,6 +323,8 @@ module _ {S : Type 0} (C : Cluster S) (start : S) (known : Known) (four : Four C
   small_keeps r _ (Offers line _ i c entry p) from k =
       offered_keeps line r i c entry (C.propose r.members c.member entry) refl (Offers line r i c entry p) from p k
   small_keeps r _ (Moves _ members m) from k = all_stay r (moved C r members) (Moves r members m) from refl refl k
+  small_keeps r _ (Restarts _ member members m none) from k =
+      all_stay r (moved C r members) (Restarts r member members m none) from refl refl k
   small_keeps r _ (Drives _ driving) from k = all_stay r (record r { driving = driving }) (Drives r driving) from refl refl k
   small_keeps r _ (Closes _ i c is) from k =
       one_changes r (closed_at r i c) i c (record c { closed = true }) (Closes r i c is) from is.there refl refl k

@@ -8,7 +8,7 @@ use Rattle.ncc_tx.specs.State.{state}
 use Rattle.ncc_session.specs.declared.config.ConnConfig.{ConnConfig}
 use Rattle.ncc_session.specs.declared.ask.Fact.{Fact}
 use Rattle.ncc_session.specs.Question.{Question}
-use Rattle.ncc_session.specs.Session.{Standing, session, asked_at}
+use Rattle.ncc_session.specs.Session.{Standing, session, asked_at, is_ended}
 use Rattle.ncc_session.specs.Asking.{AsksOnBytes, AsksOnFacts}
 use Rattle.ncc_session.specs.Transactions.{QuestionsAreTransactions}
 use Rattle.ncc_clients.specs.Run.{last_rows}
@@ -33,4 +33,7 @@ pub record Known : Type 0 where
   pub stands_still : (config : ConnConfig) (bytes piece : List ℕ) (facts : List Fact) (question : Question)
       → (session config bytes facts).facts ≡ [] → asked_at (session config bytes facts).core ≡ Some question
       → StandsStill (session config bytes facts) (session config (bytes ++ piece) facts)
+  -- where it has ended, more bytes change nothing of that
+  pub ended : (config : ConnConfig) (bytes piece : List ℕ) (facts : List Fact) → (session config bytes facts).facts ≡ []
+      → is_ended (session config bytes facts).core.state ≡ true → is_ended (session config (bytes ++ piece) facts).core.state ≡ true
   pub rows : (list : List Item) (calls : List Call) (end : Ended) → exec (state list) calls ≡ Ok end → rows_keep (last_rows end.rows) ≡ true

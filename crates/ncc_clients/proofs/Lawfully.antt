@@ -18,6 +18,7 @@ use Rattle.ncc_clients.specs.Lawful.{Lawful, MayReadAt, NoneBeyond, needed, HasI
 use Rattle.ncc_clients.specs.Laws.{IsAnswered, Refuses, EachFactIsLawful}
 use Rattle.ncc_clients.proofs.Lists.{Starts, starts_length, starts_take, take_starts, get_starts, get_within}
 use Rattle.ncc_clients.proofs.Known.{Known}
+use Rattle.ncc_clients.proofs.Lives.{asks_live}
 use Rattle.ncc_clients.proofs.Says.{Says, Finds, is_said, is_offered, says_entered, says_late, says_rows, says_faulted, says_elsewhere}
 use Rattle.ncc_clients.proofs.Says.{says_done, says_nothing, says_found, says_unsure, says_routed}
 use Rattle.ncc_clients.proofs.Fits.{same_test}
@@ -51,7 +52,7 @@ module _ {S : Type 0} (C : Cluster S) (start : S) (known : Known) (four : Four C
     within q k = starts_length here end.history (begins q k)
 
     none_beyond : (q : Question) → Case r end i c q → NoneBeyond (at_of C r.members c.member) c.facts
-    none_beyond q k = ((sound q k).live k.is.live).below
+    none_beyond q k = ((sound q k).live (asks_live C c q k.asks)).below
 
     reads : (q : Question) → Case r end i c q → FollowsOpen q → ((n : ℕ) → needed n (q ∷ []) ≡ n)
         → MayReadAt C end.history c (at_of C r.members c.member)
@@ -60,7 +61,7 @@ module _ {S : Type 0} (C : Cluster S) (start : S) (known : Known) (four : Four C
         record {
           covers = need_reached (talk_of C c) c.facts (at_of C r.members c.member) q open_ same s.asks
               (asked_is C start known four c (Some q) k.is.live k.asks)
-              (known.in_turn (config_of C c.number) c.bytes c.facts) (s.live k.is.live).reached;
+              (known.in_turn (config_of C c.number) c.bytes c.facts) (s.live (asks_live C c q k.asks)).reached;
           within = within q k;
           none_beyond = none_beyond q k;
         }
@@ -70,7 +71,7 @@ module _ {S : Type 0} (C : Cluster S) (start : S) (known : Known) (four : Four C
     state_is q k = sym (starts_take here end.history (begins q k))
 
     waiting : (q : Question) (p : Placing) → Case r end i c q → c.placing ≡ Some p → Waiting C start r i c p
-    waiting q p k e = subst (Waits C start r i c) e ((sound q k).live k.is.live).waits
+    waiting q p k e = subst (Waits C start r i c) e ((sound q k).live (asks_live C c q k.asks)).waits
 
     -- ---- a proposal whose place is reached
 

@@ -1,5 +1,6 @@
 pub mod Lists
 pub mod Known
+pub mod Lives
 pub mod Paths
 pub mod Says
 pub mod Asked
@@ -49,6 +50,7 @@ pub mod Reading
 pub mod Drivers
 pub mod Splitting
 pub mod Waking
+pub mod Ending
 pub mod Parcels
 pub mod Holding
 pub mod Began

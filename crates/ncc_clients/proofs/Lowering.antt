@@ -1,42 +1,17 @@
--- A number that falls with each move of a pump's loop: what an attempt may still send counts three, what waits to go up two, and else what
--- waits to come down one.
+-- What waits on a session's link goes up, and turns follow: the number that falls with each move of a pump falls.
 use Rattle.std.proofs.Common.{◌≡◌, ◌<◌, ℕ, ◌+◌, ◌-◌, ◌*◌, Bool, true, false, List, [], ◌∷◌, Option, Some, None}
 use Rattle.std.proofs.Common.{refl, sym, ap, ◌∙◌, subst, arith}
 use Rattle.std.specs.Prelude.{slice_get, if◌then◌else◌}
-use Rattle.ncc_driver.specs.Session.{session}
-use Rattle.ncc_driver.specs.LawsLeft.{left_of}
 use Rattle.ncc_clients.specs.Members.{Cluster, elsewhere, full, placed, Proposed}
 use Rattle.ncc_clients.specs.Links.{Link, Driver, Driving, Lifted, Parcel, bytes_in, lift_all, lift_requests}
 use Rattle.ncc_clients.specs.Run.{Run, Client, Reply, waits, tells, proposes, reply, proposed, fed}
 use Rattle.ncc_clients.specs.Turn.{Turns, Here, Then, Does}
 use Rattle.ncc_clients.specs.Drives.{driver_at, with_driver, feeds_one, feeds_some, goes_up, lifts_by, lifts, lift_to, is_reached}
 use Rattle.ncc_clients.specs.Drives.{rises, up_at, down_at}
+use Rattle.ncc_clients.specs.Measure.{weight, ups, left_by, number_by, number}
 use Rattle.ncc_clients.proofs.Lists.{set_same}
 
--- ---- the number
-
-abbrev pub weight : List Parcel → List ℕ → ℕ
-weight (p ∷ ps) down = 2
-weight [] (b ∷ bs) = 1
-weight [] [] = 0
-
--- what waits to go up on a link, if there is one
-abbrev pub ups : Option Link → List Parcel
-ups (Some link) = link.up
-ups None = []
-
--- what the session's attempt may still send, of works of two steps
-abbrev pub left_by : Option Driver → ℕ
-left_by None = 0
-left_by (Some d) = left_of 2 (session d.config d.works).state.place
-
 module _ {S : Type 0} (C : Cluster S) where
-  abbrev pub number_by : Run S → Option Driver → ℕ
-  number_by r o = 3 * left_by o + weight (up_at o) (down_at C r o)
-
-  abbrev pub number : ℕ → Run S → ℕ
-  number k r = number_by r (driver_at r k)
-
   -- ---- sessions stay in turns
 
   replied : (line : ℕ) (r s : Run S) (i : ℕ) (c : Client) (a : Reply) → Does C line r i c a s → s.driving ≡ r.driving
@@ -75,7 +50,7 @@ module _ {S : Type 0} (C : Cluster S) where
 
   module _ (k : ℕ) (limit : Option ℕ) (line : ℕ) (r s : Run S) where
     from_link : (d : Driver) (link : Link) (p : Parcel) (ps : List Parcel) → driver_at r k ≡ Some d → d.link ≡ Some link → link.up ≡ p ∷ ps
-        → is_reached limit link.up ≡ false → Turns C line (rises C k limit r) s → number k s < number k r
+        → is_reached limit link.up ≡ false → Turns C line (rises C k limit r) s → number C k s < number C k r
     from_link d link p ps here is up_is free turns =
         let e : Driver = record d { link = Some (record link { up = [] }) } in
         let w = with_driver r k e in
@@ -87,31 +62,31 @@ module _ {S : Type 0} (C : Cluster S) where
         turns_same line (rises C k limit r) s turns ∙ ap (λ (x : Run S). x.driving) rise ∙ fed_same w (link.conn - 1) (bytes_in link.up) in
         let after : driver_at s k ≡ Some e =
         ap (λ (x : Driving). slice_get x.drivers k) same ∙ set_same r.driving.drivers k d e here in
-        let was : number k r ≡ 3 * left_by (Some d) + 2 =
-        ap (λ (o : Option Driver). number_by r o) here
+        let was : number C k r ≡ 3 * left_by (Some d) + 2 =
+        ap (λ (o : Option Driver). number_by C r o) here
         ∙ ap (λ (o : Option Link). 3 * left_by (Some d) + weight (ups o) (down_at C r (Some d))) is
         ∙ ap (λ (ups : List Parcel). 3 * left_by (Some d) + weight ups (down_at C r (Some d))) up_is in
-        let is_now : number k s ≡ 3 * left_by (Some e) + weight [] (down_at C s (Some e)) =
-        ap (λ (o : Option Driver). number_by s o) after in
-        subst (λ (n : ℕ). number k s < n) (sym was)
+        let is_now : number C k s ≡ 3 * left_by (Some e) + weight [] (down_at C s (Some e)) =
+        ap (λ (o : Option Driver). number_by C s o) after in
+        subst (λ (n : ℕ). number C k s < n) (sym was)
         (subst (λ (n : ℕ). n < 3 * left_by (Some d) + 2) (sym is_now) (at_most (3 * left_by (Some d)) (down_at C s (Some e))))
 
     by_up : (d : Driver) (link : Link) (up : List Parcel) → driver_at r k ≡ Some d → d.link ≡ Some link → link.up ≡ up → (up ≡ [] → ⊥)
-        → is_reached limit link.up ≡ false → Turns C line (rises C k limit r) s → number k s < number k r
+        → is_reached limit link.up ≡ false → Turns C line (rises C k limit r) s → number C k s < number C k r
     by_up d link [] here is e some free turns = absurd (some refl)
     by_up d link (p ∷ ps) here is e some free turns = from_link d link p ps here is e free turns
 
     by_link : (d : Driver) (o : Option Link) → driver_at r k ≡ Some d → d.link ≡ o → (ups o ≡ [] → ⊥)
-        → is_reached limit (ups o) ≡ false → Turns C line (rises C k limit r) s → number k s < number k r
+        → is_reached limit (ups o) ≡ false → Turns C line (rises C k limit r) s → number C k s < number C k r
     by_link d None here is some free turns = absurd (some refl)
     by_link d (Some link) here is some free turns = by_up d link link.up here is refl some free turns
 
     by_driver : (o : Option Driver) → driver_at r k ≡ o → (up_at o ≡ [] → ⊥) → is_reached limit (up_at o) ≡ false
-        → Turns C line (rises C k limit r) s → number k s < number k r
+        → Turns C line (rises C k limit r) s → number C k s < number C k r
     by_driver None here some free turns = absurd (some refl)
     by_driver (Some d) here some free turns = by_link d d.link here refl some free turns
 
     -- All that waited goes up, and turns follow: the number is less.
     pub rises_lower : (up_at (driver_at r k) ≡ [] → ⊥) → is_reached limit (up_at (driver_at r k)) ≡ false
-        → Turns C line (rises C k limit r) s → number k s < number k r
+        → Turns C line (rises C k limit r) s → number C k s < number C k r
     rises_lower some free turns = by_driver (driver_at r k) refl some free turns

@@ -12,13 +12,14 @@ use Rattle.ncc_session.specs.Core.{leave_of}
 use Rattle.ncc_session.specs.Question.{Question, leave, leave_noop, Output, questions_of}
 use Rattle.ncc_session.specs.Session.{Standing, session}
 use Rattle.ncc_clients.specs.Members.{Cluster, applied, at_of, config_of}
-use Rattle.ncc_clients.specs.Run.{Run, Client, Placing, begun, talk_of, question_of, accepted, with_placing}
+use Rattle.ncc_clients.specs.Run.{Run, Client, Placing, begun, talk_of, question_of, has_ended, accepted, with_placing}
 use Rattle.ncc_clients.specs.Moment.{IsOpen, Path}
 use Rattle.ncc_clients.specs.Four.{Four}
 use Rattle.ncc_clients.specs.Lawful.{needed, need_of}
 use Rattle.ncc_clients.specs.Laws.{Refuses, EndsBehind, StandsBehindItsNeed, GoesOn}
 use Rattle.ncc_clients.proofs.Lists.{set_same}
 use Rattle.ncc_clients.proofs.Known.{Known}
+use Rattle.ncc_clients.proofs.Lives.{asks_live}
 use Rattle.ncc_clients.proofs.Says.{Says, Finds, is_said, says_entered, says_late, says_rows, says_faulted, says_elsewhere}
 use Rattle.ncc_clients.proofs.Says.{says_done, says_nothing, says_found, says_unsure, says_routed}
 use Rattle.ncc_clients.proofs.Asked.{FollowsOpen, open_leave, open_noop, need_reached}
@@ -45,7 +46,7 @@ module _ {S : Type 0} (C : Cluster S) (start : S) (known : Known) (four : Four C
       let s = (sound_at C start known four r from).each i c is.there in
       need_reached (talk_of C c) c.facts (at_of C r.members c.member) q open_ same s.asks
       (asked_is C start known four c (Some q) is.live asks)
-      (known.in_turn (config_of C c.number) c.bytes c.facts) (s.live is.live).reached
+      (known.in_turn (config_of C c.number) c.bytes c.facts) (s.live (asks_live C c q asks)).reached
 
   -- while its question waits, more bytes change nothing of what it needs
   same_need : (c d : Client) (q : Question) → GoesOn c d → d.facts ≡ c.facts → c.closed ≡ false → question_of C c ≡ Some q
@@ -78,16 +79,16 @@ module _ {S : Type 0} (C : Cluster S) (start : S) (known : Known) (four : Four C
         let behind = four.behind x.then_ i x.it x.entry p.place p.term x.after w.from x.accepts in
         omega (arith, same, reached, behind)
 
-    found : (p : Placing) (fact : Fact) → c.placing ≡ Some p → Finds (applied C r.members c.member) p fact
+    found : (p : Placing) (fact : Fact) → has_ended C c ≡ false → c.placing ≡ Some p → Finds (applied C r.members c.member) p fact
         → EndsBehind (need_of C c) fact
-    found p fact e f =
+    found p fact alive e f =
         subst (EndsBehind (need_of C c)) (sym f.fact_is)
         (go (f.item.term == p.term) (stamp_at (state (take (p.place - 1) (applied C r.members c.member))) f.item).valid)
       where
         behind : need_of C c ≤ p.place
         behind =
             let s = (sound_at C start known four r from).each i c is.there in
-            placed_behind p (subst (Waits C start r i c) e (s.live is.live).waits)
+            placed_behind p (subst (Waits C start r i c) e (s.live alive).waits)
 
         go : (t v : Bool)
             → EndsBehind (need_of C c) (if t then (if v then Placed p.place else Stale p.place) else Replaced p.place p.term f.item.term)
@@ -103,7 +104,7 @@ module _ {S : Type 0} (C : Cluster S) (start : S) (known : Known) (four : Four C
     said _ _ asks (says_elsewhere calls h l) = tt
     said _ _ asks (says_done calls told h) = applied_need r i c (leave calls told) from is asks (open_leave calls told) (λ n. refl)
     said _ _ asks says_nothing = applied_need r i c leave_noop from is asks open_noop (λ n. refl)
-    said _ _ asks (says_found calls told p fact w is f) = found p fact is f
+    said _ _ asks (says_found calls told p fact w is f) = found p fact (asks_live C c (leave calls told) asks) is f
     said _ _ asks (says_unsure calls told p w is h) = tt
     said _ _ asks says_routed = tt
 

@@ -13,15 +13,15 @@ use Rattle.ncc_apply.specs.View.{stamp_of}
 use Rattle.ncc_session.specs.declared.ask.Fact.{Fact}
 use Rattle.ncc_session.specs.declared.ask.Fact.TheVariants.{Elsewhere}
 use Rattle.ncc_session.specs.Question.{Question, enter, run, leave, leave_noop, route, Row, last_writes, some_writes}
-use Rattle.ncc_session.specs.Session.{asked_at}
 use Rattle.ncc_clients.specs.Members.{Cluster, applied}
-use Rattle.ncc_clients.specs.Run.{Run, Client, Placing, tells, begun, talk_of, question_of, deadline_of, enters, ran, found, lands}
+use Rattle.ncc_clients.specs.Run.{Run, Client, Placing, tells, begun, question_of, deadline_of, enters, ran, found, lands}
 use Rattle.ncc_clients.specs.Run.{leaves, reply, reply_by}
 use Rattle.ncc_clients.specs.Moment.{Path}
 use Rattle.ncc_clients.specs.Four.{Four}
 use Rattle.ncc_clients.specs.Turn.{acts, is_answer, AtRest, MayWait, WaitsFor, NobodyIsForgotten}
 use Rattle.ncc_clients.proofs.Lists.{all_get, all_from, get_there, nobody_passes}
 use Rattle.ncc_clients.proofs.Known.{Known}
+use Rattle.ncc_clients.proofs.Lives.{asks_live}
 use Rattle.ncc_clients.proofs.Says.{ready_reaches, stamp_there}
 use Rattle.ncc_clients.proofs.Sound.{Waits}
 use Rattle.ncc_clients.proofs.Keeping.{sound_at}
@@ -86,9 +86,8 @@ module _ {S : Type 0} (C : Cluster S) (start : S) (known : Known) (four : Four C
     to_wait (run calls) h e =
         absurd (to_run (last_writes calls && not (C.leads r.members c.member)) Elsewhere (ran (length list) (exec (state list) calls)) e)
     to_wait (leave calls told) h e =
-        let open_ : c.closed ≡ false = open_by c.closed (asked_at (talk_of C c).core) (leave calls told) h in
         to_leave calls told (some_writes calls) c.placing refl
-        (((sound_at C start known four r from).each i c there).live open_).waits e
+        (((sound_at C start known four r from).each i c there).live (asks_live C c (leave calls told) h)).waits e
     to_wait leave_noop h e = busy e
     to_wait route h e = busy e
 

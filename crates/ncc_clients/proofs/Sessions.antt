@@ -1,13 +1,13 @@
 -- What the layers below prove of sessions and of rows.
-use Rattle.std.proofs.Common.{◌≡◌, ℕ, Some, List, [], ◌++◌, refl, ap, ◌∙◌, append-nil}
+use Rattle.std.proofs.Common.{◌≡◌, ℕ, true, Some, List, [], ◌++◌, refl, ap, ◌∙◌, append-nil}
 use Rattle.ncc_stream.specs.Stream.{behind, still, going}
 use Rattle.ncc_stream.proofs.Going.{going_none}
 use Rattle.ncc_session.specs.declared.config.ConnConfig.{ConnConfig}
 use Rattle.ncc_session.specs.declared.ask.Fact.{Fact}
 use Rattle.ncc_session.specs.Question.{Question}
-use Rattle.ncc_session.specs.Session.{Input, Standing, move, start, session, asked_at}
+use Rattle.ncc_session.specs.Session.{Input, Standing, move, start, session, asked_at, is_ended}
 use Rattle.ncc_session.proofs.Lawful.{lawful}
-use Rattle.ncc_session.proofs.Moves.{stays}
+use Rattle.ncc_session.proofs.Moves.{stays, drops_all}
 use Rattle.ncc_session.proofs.Shaken.{more_none}
 use Rattle.ncc_session.proofs.Talks.{session_on}
 use Rattle.ncc_session.proofs.Asking_by.{inputs_grow, asks_on_bytes, asks_on_facts}
@@ -34,6 +34,16 @@ stands_still config bytes piece facts q taken asks =
       taken = ap (λ (x : Standing). x.facts) is;
     }
 
+ended : (config : ConnConfig) (bytes piece : List ℕ) (facts : List Fact) → (session config bytes facts).facts ≡ []
+    → is_ended (session config bytes facts).core.state ≡ true → is_ended (session config (bytes ++ piece) facts).core.state ≡ true
+ended config bytes piece facts taken over =
+    let s = session config bytes facts in
+    let g = inputs_grow bytes piece in
+    let is : session config (bytes ++ piece) facts ≡ behind s.written (still s.core [] []) =
+    session_on config bytes piece facts g.0 s.items s.core s.written g.1 (parts s taken)
+    ∙ ap (behind s.written) (drops_all config s.core (s.items ++ g.0) over) in
+    ap (λ (x : Standing). is_ended x.core.state) is ∙ over
+
 fresh : (config : ConnConfig) → Fresh (session config [] [])
 unfolding session
 fresh config =
@@ -52,5 +62,6 @@ known = record {
   in_turn = are_transactions;
   fresh = fresh;
   stands_still = stands_still;
+  ended = ended;
   rows = rows_are_kept;
 }

@@ -10,7 +10,7 @@ use Rattle.ncc_session.proofs.Moves.{bytes_join}
 use Rattle.ncc_clients.specs.Members.{Cluster, Proposed, elsewhere, full, placed, config_of}
 use Rattle.ncc_clients.specs.Links.{Driver, Linked, Driving}
 use Rattle.ncc_clients.specs.Run.{Run, Client, begun, talk_of, out_of, question_of, with_bytes, with_fact, with_placing, proposed}
-use Rattle.ncc_clients.specs.Moment.{IsOpen, Proposes, Small, Ticks, Opens, Feeds, Tells, Offers, Moves, Drives, Closes, Path}
+use Rattle.ncc_clients.specs.Moment.{IsOpen, Proposes, Small, Ticks, Opens, Feeds, Tells, Offers, Moves, Restarts, Drives, Closes, Path}
 use Rattle.ncc_clients.specs.Four.{Four}
 use Rattle.ncc_clients.specs.Laws.{IsAnswered}
 use Rattle.ncc_clients.specs.Course.{IsNoLink, LeavesSessions, HasNumbers}
@@ -195,6 +195,7 @@ module _ {S : Type 0} (C : Cluster S) where
     small_kept r s (Offers line _ i c entry p) leaves from h =
         offered_kept line r i c entry (C.propose r.members c.member entry) refl from p h
     small_kept r s (Moves _ members m) leaves from h = kept_of s (same_keeps r h)
+    small_kept r s (Restarts _ member members m none) leaves from h = kept_of s (same_keeps r h)
     small_kept r s (Drives _ driving) leaves from h = absurd leaves
     small_kept r s (Closes _ i c is) leaves from h =
         kept_of s (becomes_keeps r i c (record c { closed = true }) is.there (becomes_closed c) h)

@@ -5,8 +5,8 @@ use Rattle.std.specs.List.{AllByRecursion}
 use Rattle.ncc_session.specs.Question.{Question}
 use Rattle.ncc_clients.specs.declared.told.Told.{Told as Saying}
 use Rattle.ncc_clients.specs.Members.{Cluster, applied, at_of}
-use Rattle.ncc_clients.specs.Run.{Run, Client, Placing, begun, talk_of, accepted}
-use Rattle.ncc_clients.specs.Moment.{IsOpen, Small, Path}
+use Rattle.ncc_clients.specs.Run.{Run, Client, Placing, begun, talk_of, has_ended, accepted}
+use Rattle.ncc_clients.specs.Moment.{Lives, Small, Path}
 use Rattle.ncc_clients.specs.Four.{Four}
 use Rattle.ncc_clients.specs.Lawful.{place_of, NoneBeyond, IsProposal}
 use Rattle.ncc_clients.specs.Laws.{facts_to, IsServed}
@@ -23,7 +23,7 @@ abbrev pub Waits : {S : Type 0} → Cluster S → S → Run S → ℕ → Client
 Waits C start r i c None = Unit {0}
 Waits C start r i c (Some p) = Waiting C start r i c p
 
--- of a connection that is not closed
+-- of a connection that has not ended
 pub record Live {S : Type 0} (C : Cluster S) (start : S) (r : Run S) (i : ℕ) (c : Client) (answered : List Question) : Type 0 where
   pub below : NoneBeyond (at_of C r.members c.member) c.facts
   pub reached : Reached answered c.facts (at_of C r.members c.member)
@@ -32,7 +32,7 @@ pub record Live {S : Type 0} (C : Cluster S) (start : S) (r : Run S) (i : ℕ) (
 pub record Sound {S : Type 0} (C : Cluster S) (start : S) (r : Run S) (i : ℕ) (c : Client) : Type 0 where
   pub served : IsServed C r i c
   pub asks : Asks (talk_of C c) c.facts
-  pub live : c.closed ≡ false → Live C start r i c asks.answered
+  pub live : has_ended C c ≡ false → Live C start r i c asks.answered
 
 -- of all connections; and who was told has connected
 pub record AllSound {S : Type 0} (C : Cluster S) (start : S) (r : Run S) : Type 0 where
@@ -71,8 +71,8 @@ module _ {S : Type 0} (C : Cluster S) (start : S) (r s : Run S) (h : Small C r s
   }
 
   module _ (four : Four C start) (from : Path C (begun start) r) where
-    -- the member of an open connection has applied no less
-    pub further : (i : ℕ) (c : Client) → IsOpen r i c → at_of C r.members c.member ≤ at_of C s.members c.member
+    -- the member of a connection that has not ended has applied no less
+    pub further : (i : ℕ) (c : Client) → Lives C r i c → at_of C r.members c.member ≤ at_of C s.members c.member
     further i c is = starts_length (applied C r.members c.member) (applied C s.members c.member) (four.stays r s i c from is h)
 
     -- a connection to which nothing happens
@@ -81,5 +81,5 @@ module _ {S : Type 0} (C : Cluster S) (start : S) (r s : Run S) (h : Small C r s
     stays_sound i c there told k = record {
       served = record { number = k.served.number; facts = k.served.facts ∙ sym told; taken = k.served.taken };
       asks = k.asks;
-      live = λ open_. live_more i c k.asks.answered (further i c (record { there = there; live = open_ })) (k.live open_);
+      live = λ alive. live_more i c k.asks.answered (further i c (record { there = there; live = alive })) (k.live alive);
     }

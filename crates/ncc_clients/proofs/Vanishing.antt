@@ -6,7 +6,7 @@ use Rattle.ncc_session.specs.declared.ask.Fact.{Fact}
 use Rattle.ncc_session.specs.declared.ask.Fact.TheVariants.{Elsewhere, Full}
 use Rattle.ncc_clients.specs.Members.{Cluster, Proposed, elsewhere, full, placed}
 use Rattle.ncc_clients.specs.Run.{Run, Client, ticked, fed, moved, closed_at, with_bytes, with_fact, with_placing, proposed, told_to}
-use Rattle.ncc_clients.specs.Moment.{Small, Ticks, Opens, Feeds, Tells, Offers, Moves, Drives, Closes, Path, Here, Then}
+use Rattle.ncc_clients.specs.Moment.{Small, Ticks, Opens, Feeds, Tells, Offers, Moves, Restarts, Drives, Closes, Path, Here, Then}
 use Rattle.ncc_clients.specs.Laws.{GoesOn, NobodyVanishes}
 use Rattle.ncc_clients.proofs.Lists.{get_append, set_same, set_other}
 use Rattle.ncc_clients.proofs.Fits.{same_test}
@@ -106,6 +106,7 @@ module _ {S : Type 0} where
     small_goes r s (Tells line _ i c fact t) = told_goes line r i c fact t.there.there
     small_goes r s (Offers line _ i c entry p) = offered_goes line r i c (C.propose r.members c.member entry) p.there.there
     small_goes r s (Moves _ members m) = stays_there r (moved C r members) refl
+    small_goes r s (Restarts _ member members m none) = stays_there r (moved C r members) refl
     small_goes r s (Drives _ driving) = stays_there r (record r { driving = driving }) refl
     small_goes r s (Closes _ i c is) = one_goes r (closed_at r i c) i c (record c { closed = true }) is.there refl
         (goes_other c (record c { closed = true }) refl refl refl refl refl)

@@ -148,7 +148,7 @@ module _ {S : Type 0} (C : Cluster S) where
 
   -- ---- all that moves at once
 
-  course_join : (r s t : Run S) → Course C r s → Course C s t → Course C r t
+  pub course_join : (r s t : Run S) → Course C r s → Course C s t → Course C r t
   course_join r _ t (Nothing _) q = q
   course_join r s t (And _ m _ h p) q = And r m t h (course_join m s t p q)
 

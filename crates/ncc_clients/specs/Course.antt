@@ -8,10 +8,10 @@ use Rattle.ncc_driver.specs.LawsFits.{JobFits, AreBytes, ToldBytes}
 use Rattle.ncc_driver.specs.Work.{Job}
 use Rattle.ncc_clients.specs.Members.{Cluster}
 use Rattle.ncc_clients.specs.Links.{Link, Driver, Linked, Lifted, Parcel, bytes_in, lift_bytes, lift_requests, lift_all}
-use Rattle.ncc_clients.specs.Run.{Run, begun}
+use Rattle.ncc_clients.specs.Run.{Run, begun, moved}
 use Rattle.ncc_clients.specs.Moment.{Small, Feeds, Drives, Path}
 use Rattle.ncc_clients.specs.Drives.{driver_at, is_busy, makes, begins, lifts, waits_above, falls, cuts, woken, wakes_all, lift_to}
-use Rattle.ncc_clients.specs.Drives.{all_bytes, Pumps}
+use Rattle.ncc_clients.specs.Drives.{all_bytes, closes_all, ends_at, Pumps}
 use Rattle.ncc_clients.specs.Turn.{Turns}
 use Rattle.ncc_clients.specs.Four.{Four}
 use Rattle.ncc_clients.specs.Reads.{SessionsReadTheirWrites}
@@ -88,6 +88,20 @@ abbrev pub PumpsAreCourses : {S : Type 0} → Cluster S → Type 0
 PumpsAreCourses {S} C =
     (start : Run S) → ((r : Run S) (k : ℕ) → Course C start r → ComeAsBytes C r (driver_at r k) all_bytes)
     → (line k : ℕ) (limit : Option ℕ) (r s : Run S) → Course C start r → Pumps C line k limit r s → Course C r s
+
+-- So is that a member ends and starts again.
+abbrev pub EndsAreCourses : {S : Type 0} → Cluster S → Type 0
+EndsAreCourses {S} C =
+    (line member : ℕ) (members : S) (r : Run S) → C.Restarts r.members member members → Course C r (ends_at C line member members r)
+
+-- It is all one whether a member's connections are closed before it starts again or behind that.
+abbrev pub ClosesEitherWay : {S : Type 0} → Cluster S → Type 0
+ClosesEitherWay {S} C =
+    (member : ℕ) (members : S) (r : Run S) → closes_all C member (moved C r members) ≡ moved C (closes_all C member r) members
+
+-- Whatever happens with sessions is one small thing after another.
+abbrev pub CoursesArePaths : {S : Type 0} → Cluster S → Type 0
+CoursesArePaths {S} C = (r s : Run S) → Course C r s → Path C r s
 
 -- The cluster's number and each place of its history have 64 bits, as a bookmark has them.
 pub record HasNumbers {S : Type 0} (C : Cluster S) (start : S) : Type 0 where

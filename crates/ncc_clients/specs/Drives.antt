@@ -1,6 +1,6 @@
 -- What a session of a driver wants done is done at once, over links whose bytes move when they are told to.
-use Rattle.std.specs.Prelude.{◌≡◌, ℕ, suc, ◌+◌, ◌-◌, nat_le, Bool, true, false, if◌then◌else◌, List, [], ◌∷◌, ◌++◌, length, drop, is_some}
-use Rattle.std.specs.Prelude.{Option, Some, None, bytes_eq, slice_get, slice_set}
+use Rattle.std.specs.Prelude.{◌≡◌, ℕ, suc, ◌+◌, ◌-◌, nat_eq, nat_le, Bool, true, false, not, ◌&&◌, if◌then◌else◌, List, [], ◌∷◌, ◌++◌}
+use Rattle.std.specs.Prelude.{length, drop, map, Option, Some, None, is_some, bytes_eq, slice_get, slice_set}
 use Rattle.ncc_pack.specs.declared.value.Value.{Value}
 use Rattle.ncc_pack.specs.declared.value.Value.TheVariants as v
 use Rattle.ncc_driver.specs.declared.config.SessionConfig.{SessionConfig}
@@ -13,7 +13,7 @@ use Rattle.ncc_driver.specs.Session.{Begun, Moved, session, acts}
 use Rattle.ncc_driver.specs.Talk.{begun as begun_work, works_at}
 use Rattle.ncc_clients.specs.Members.{Cluster, addresses}
 use Rattle.ncc_clients.specs.Links.{Link, Driver, Ended, Lifted, Parcel, parcel, bytes_in, lift_requests, lift_all, requests_in}
-use Rattle.ncc_clients.specs.Run.{Run, Client, opened, fed, closed_at, out_of}
+use Rattle.ncc_clients.specs.Run.{Run, Client, has_ended, opened, fed, moved, closed_at, out_of}
 use Rattle.ncc_clients.specs.Turn.{Turns, Settles}
 
 -- ---- connections, by their index
@@ -226,6 +226,38 @@ wakes_from C line k (d ∷ ds) r = wakes_from C line (suc k) ds (if is_due r.now
 
 abbrev pub wakes_all : {S : Type 0} → Cluster S → ℕ → Run S → Run S
 wakes_all C line r = wakes_from C line 0 r.driving.drivers r
+
+-- ---- a member ends: its connections are closed, it starts again, and the sessions whose links those were are told
+
+-- a connection of this member that has not ended
+abbrev pub lives_at : {S : Type 0} → Cluster S → ℕ → Client → Bool
+lives_at C member c = nat_eq c.member member && not (has_ended C c)
+
+-- It is closed; any other stays as it is.
+abbrev pub closed_with : {S : Type 0} → Cluster S → ℕ → Client → Client
+closed_with C member c = if lives_at C member c then record c { closed = true } else c
+
+abbrev pub closes_all : {S : Type 0} → Cluster S → ℕ → Run S → Run S
+closes_all C member r = record r { clients = map (closed_with C member) r.clients }
+
+-- The connection of the link is one of this member that has not ended.
+abbrev pub hangs_by : {S : Type 0} → Cluster S → ℕ → Option Client → Bool
+hangs_by C member None = false
+hangs_by C member (Some c) = lives_at C member c
+
+abbrev pub hangs_on : {S : Type 0} → Cluster S → ℕ → Run S → Option Link → Bool
+hangs_on C member r None = false
+hangs_on C member r (Some link) = hangs_by C member (slice_get r.clients (link.conn - 1))
+
+-- Sessions whose links are lost are told, the lowest number first.
+unfoldable pub loses_from : {S : Type 0} → Cluster S → ℕ → ℕ → (Option Link → Bool) → List Driver → Run S → Run S
+loses_from C line k lost [] r = r
+loses_from C line k lost (d ∷ ds) r = loses_from C line (suc k) lost ds (if lost d.link then cuts C line k r (driver_at r k) else r)
+
+-- the member ends in this run, and the members are these then
+abbrev pub ends_at : {S : Type 0} → Cluster S → ℕ → ℕ → S → Run S → Run S
+ends_at C line member members r =
+    loses_from C line 0 (hangs_on C member r) r.driving.drivers (moved C (closes_all C member r) members)
 
 -- ---- pump: what waits goes up and is answered, what was written comes down, and so on
 

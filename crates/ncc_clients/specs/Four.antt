@@ -6,7 +6,7 @@ use Rattle.ncc_tx.specs.declared.entry.Entry.{Entry}
 use Rattle.ncc_tx.specs.declared.entry.Item.{Item}
 use Rattle.ncc_clients.specs.Members.{Cluster, elsewhere, placed, applied, at_of}
 use Rattle.ncc_clients.specs.Run.{Run, Client, begun, accepted}
-use Rattle.ncc_clients.specs.Moment.{IsOpen, Proposes, Small, Path}
+use Rattle.ncc_clients.specs.Moment.{Lives, Proposes, Small, Path}
 
 abbrev pub Begins : List Item → List Item → Type 0
 Begins front whole = (rest : List Item) × (front ++ rest ≡ whole)
@@ -20,8 +20,8 @@ pub record Four {S : Type 0} (C : Cluster S) (start : S) : Type 0 where
   -- Every applied list begins the history, which only grows.
   pub begins : (r s : Run S) → Path C (begun start) r → Path C r s → AllByRecursion (λ list. Begins list s.history) (C.lists r.members)
   pub grows : (r s : Run S) → Path C (begun start) r → Small C r s → Begins r.history s.history
-  -- A member's applied list only grows, as long as it has an open connection.
-  pub stays : (r s : Run S) (i : ℕ) (c : Client) → Path C (begun start) r → IsOpen r i c → Small C r s
+  -- A member's applied list only grows, as long as it has a connection that has not ended.
+  pub stays : (r s : Run S) (i : ℕ) (c : Client) → Path C (begun start) r → Lives C r i c → Small C r s
       → Begins (applied C r.members c.member) (applied C s.members c.member)
   -- Where an applied list has at the place of an accepted proposal an item of its term, then or later, that item has its entry.
   pub keeps : (r s : Run S) (i : ℕ) (c : Client) (entry : Entry) (place term : ℕ) (after : S) (member : ℕ) (item : Item)

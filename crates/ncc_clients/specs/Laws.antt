@@ -118,6 +118,7 @@ pub record Views (S : Type 0) : Type 1 where
   pub leader : S → ℕ → ℕ
   pub propose : S → ℕ → Entry → Proposed S
   pub Moves : S → S → Type 0
+  pub Restarts : S → ℕ → S → Type 0
 
 abbrev pub cluster_of : {S : Type 0} → Views S → ℕ → ℕ → ℕ → ℕ → Cluster S
 cluster_of v cores replicas id wait = record {
@@ -130,6 +131,7 @@ cluster_of v cores replicas id wait = record {
   leader = v.leader;
   propose = v.propose;
   Moves = v.Moves;
+  Restarts = v.Restarts;
 }
 
 -- whatever its numbers are

@@ -10,6 +10,7 @@ pub mod Transacting
 pub mod Drives
 pub mod Reads
 pub mod Course
+pub mod Measure
 pub mod Worked
 pub mod Task
 pub mod Held

@@ -32,6 +32,8 @@ pub record Cluster (S : Type 0) : Type 1 where
   pub propose : S → ℕ → Entry → Proposed S
   -- what else the members do, by themselves or as they are told to
   pub Moves : S → S → Type 0
+  -- a member, by its number, starts again, and may have applied less than before
+  pub Restarts : S → ℕ → S → Type 0
 
 -- the list that a member, numbered from 1, has applied
 abbrev pub applied : {S : Type 0} → Cluster S → S → ℕ → List Item

@@ -61,6 +61,7 @@ three = record {
   leader = λ s member. 1;
   propose = λ s member entry. elsewhere;
   Moves = λ s t. ⊥;
+  Restarts = λ s member t. ⊥;
 }
 
 abbrev pub AddressesName : Type 0

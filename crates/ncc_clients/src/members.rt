@@ -21,4 +21,7 @@ pub trait Members {
 
     /// What else they do.
     ghost moves: { Self → Self → Type 0 };
+
+    /// A member, by its number, starts again.
+    ghost restarts: { Self → ℕ → Self → Type 0 };
 }

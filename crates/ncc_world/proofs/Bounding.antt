@@ -8,7 +8,7 @@ use Rattle.ncc_tx.specs.declared.entry.Entry.{Entry}
 use Rattle.ncc_tx.specs.declared.entry.Item.{Item}
 use Rattle.ncc_clients.specs.Members.{Proposed, elsewhere, full, placed}
 use Rattle.ncc_clients.specs.Run.{Client, begun, proposed}
-use Rattle.ncc_clients.specs.Moment.{Small, Ticks, Opens, Feeds, Tells, Offers, Moves, Drives, Closes, Path, Here, Then}
+use Rattle.ncc_clients.specs.Moment.{Small, Ticks, Opens, Feeds, Tells, Offers, Moves, Restarts, Drives, Closes, Path, Here, Then}
 use Rattle.ncc_clients.specs.Course.{HasNumbers}
 use Rattle.ncc_world.specs.declared.setup.Setup.{Setup}
 use Rattle.ncc_world.specs.Setting.{IsSetup, Lists, Applies, cluster_of, nobody, list_at, appended, item_of, proposes, extended}
@@ -73,6 +73,7 @@ small_bounded s r t (Tells line _ i c fact is) h = h
 small_bounded s r t (Offers line _ i c entry is) h =
     proposed_bounded s line r i c entry ((cluster_of s).propose r.members c.member entry) refl h
 small_bounded s r t (Moves _ members is) h = applied_bounded s r.members members is h
+small_bounded s r t (Restarts _ member members is none) h = absurd is
 small_bounded s r t (Drives _ driving) h = h
 small_bounded s r t (Closes _ i c is) h = h
 

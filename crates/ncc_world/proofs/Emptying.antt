@@ -9,7 +9,7 @@ use Rattle.ncc_clients.specs.Links.{Driver, Driving}
 use Rattle.ncc_clients.specs.Drives.{does_all, does_by, driver_at, joined, last_of, wakes_all, with_driver, woken}
 use Rattle.ncc_clients.specs.declared.driver.Effect.{Effect}
 use Rattle.ncc_clients.specs.Held.{effect_of, own}
-use Rattle.ncc_clients.proofs.Lowering.{number}
+use Rattle.ncc_clients.specs.Measure.{number}
 use Rattle.ncc_world.specs.declared.setup.Setup.{Setup}
 use Rattle.ncc_world.specs.declared.running.Running.{Running}
 use Rattle.ncc_world.specs.declared.drivers.Drivers.{Drivers}

@@ -19,7 +19,7 @@ use Rattle.ncc_clients.specs.declared.task.Task.TheVariants.{Add, Put, Get}
 use Rattle.ncc_clients.specs.Task.{job_of}
 use Rattle.ncc_clients.specs.Held.{Held, HasTask, IsDriver}
 use Rattle.ncc_clients.proofs.Parcels.{drop_more}
-use Rattle.ncc_clients.proofs.Lowering.{number, number_by, left_by, ups, weight}
+use Rattle.ncc_clients.specs.Measure.{number, number_by, left_by, ups, weight}
 use Rattle.ncc_clients.proofs.Descending.{descends_lower}
 
 -- ---- works

@@ -8,7 +8,7 @@ use Rattle.ncc_tx.specs.declared.entry.Entry.{Entry}
 use Rattle.ncc_tx.specs.declared.entry.Item.{Item}
 use Rattle.ncc_clients.specs.Members.{Proposed, elsewhere, full, placed, longest}
 use Rattle.ncc_clients.specs.Run.{Client, begun, proposed, accepted, moved}
-use Rattle.ncc_clients.specs.Moment.{Small, Ticks, Opens, Feeds, Tells, Offers, Moves, Drives, Closes, Path, Here, Then}
+use Rattle.ncc_clients.specs.Moment.{Small, Ticks, Opens, Feeds, Tells, Offers, Moves, Restarts, Drives, Closes, Path, Here, Then}
 use Rattle.ncc_clients.specs.Four.{Begins, Accepts, Four}
 use Rattle.ncc_world.specs.declared.setup.Setup.{Setup}
 use Rattle.ncc_world.specs.Setting.{IsSetup, Lists, list_at, nobody, item_of, appended, proposes, extended, lagging, Applies, cluster_of}
@@ -180,6 +180,7 @@ small_kept s r t k (Feeds _ i c piece h) = same_kept r t k refl refl
 small_kept s r t k (Tells line _ i c fact h) = same_kept r t k refl refl
 small_kept s r t k (Offers line _ i c entry h) = offers_kept s line r k i c entry ((cluster_of s).propose r.members c.member entry) refl
 small_kept s r t k (Moves _ members h) = moves_kept s r k members h
+small_kept s r t k (Restarts _ member members h none) = absurd h
 small_kept s r t k (Drives _ driving) = same_kept r t k refl refl
 small_kept s r t k (Closes _ i c h) = same_kept r t k refl refl
 

@@ -10,7 +10,8 @@ use Rattle.ncc_clients.specs.Turn.{Settles}
 use Rattle.ncc_clients.specs.Drives.{driver_at, up_at, down_at, is_reached, less, rises, descends, falls, all_bytes}
 use Rattle.ncc_clients.specs.Drives.{Pumps, Rests, Stops, Lifts, Falls}
 use Rattle.ncc_clients.specs.Held.{waiting_in, waiting_on}
-use Rattle.ncc_clients.proofs.Lowering.{number, rises_lower}
+use Rattle.ncc_clients.specs.Measure.{number}
+use Rattle.ncc_clients.proofs.Lowering.{rises_lower}
 use Rattle.ncc_world.specs.declared.setup.Setup.{Setup}
 use Rattle.ncc_world.specs.declared.running.Running.{Running}
 use Rattle.ncc_world.specs.Setting.{cluster_of}

@@ -22,7 +22,7 @@ use Rattle.ncc_clients.specs.Run.{question_of, last_rows}
 use Rattle.ncc_clients.specs.Links.{Driver}
 use Rattle.ncc_clients.specs.Drives.{Pumps, driver_at, feeds_some, with_driver}
 use Rattle.ncc_clients.specs.Held.{own}
-use Rattle.ncc_clients.proofs.Lowering.{number}
+use Rattle.ncc_clients.specs.Measure.{number}
 use Rattle.ncc_driver.specs.declared.action.Action.{Action}
 use Rattle.ncc_tx.specs.declared.entry.Item.{Item}
 use Rattle.ncc_session.specs.Question.{Question, Row}

@@ -54,7 +54,7 @@ pub record Applies (old new : Lists) : Type 0 where
   pub there : member ≤ length old
   pub same : new ≡ lagging old member count
 
--- other cores know core 1 as leader, and replicas know nobody
+-- Other cores know core 1 as leader, and replicas know nobody. No member ever starts again.
 abbrev pub cluster_of : Setup → Cluster Lists
 cluster_of s = record {
   cores = s.cores;
@@ -66,4 +66,5 @@ cluster_of s = record {
   leader = λ lists member. if nat_le member s.cores then 1 else 0;
   propose = λ lists member entry. if member == 1 then proposes s.limit lists entry else elsewhere;
   Moves = Applies;
+  Restarts = λ lists member new. ⊥;
 }
