@@ -20,7 +20,7 @@ use Rattle.ncc_session.specs.Question.{some_writes}
 use Rattle.ncc_clients.specs.Run.{Client, Placing, proposes, reply, question_of, deadline_of, answers, leaves, lands, found}
 use Rattle.ncc_world.specs.declared.setup.Setup.{Setup}
 use Rattle.ncc_world.specs.declared.seen.ConnSeen.{ConnSeen}
-use Rattle.ncc_world.specs.declared.served.Placing.{Placing}
+use Rattle.ncc_world.specs.declared.served.ProposedAt.{ProposedAt}
 use Rattle.ncc_world.specs.declared.served.Served.{Served}
 use Rattle.ncc_world.specs.declared.served.Change.{Change}
 use Rattle.ncc_world.specs.declared.served.Change.TheVariants as change
@@ -71,7 +71,7 @@ none_for s r c e.Noop h = absurd (cc)
 none_for s r c (e.Tx steps told) h =
     none_by (get_or r.members (c.member - 1) []) r.now (deadline_of (cluster_of s) c) (some_writes (map call_of steps)) c.placing h
 
-none_kept : (o : Option Placing) → placing_of o ≡ None → o ≡ None
+none_kept : (o : Option ProposedAt) → placing_of o ≡ None → o ≡ None
 none_kept None e = refl
 none_kept (Some p) e = absurd (cc)
 

@@ -19,7 +19,7 @@ use Rattle.ncc_clients.specs.Run.{Client, Placing, proposes, reply, question_of,
 use Rattle.ncc_world.specs.declared.setup.Setup.{Setup}
 use Rattle.ncc_world.specs.declared.seen.ConnSeen.{ConnSeen}
 use Rattle.ncc_world.specs.declared.earlier.Earlier.{Earlier}
-use Rattle.ncc_world.specs.declared.served.Placing.{Placing}
+use Rattle.ncc_world.specs.declared.served.ProposedAt.{ProposedAt}
 use Rattle.ncc_world.specs.declared.served.Served.{Served}
 use Rattle.ncc_world.specs.declared.members.Proposal.{Proposal}
 use Rattle.ncc_world.specs.declared.members.Proposal.TheVariants as proposal
@@ -123,7 +123,7 @@ full_fits s r v seen c entry entries k e h =
 
 -- ---- an entry that was placed
 
-pub record Accepted (s : Setup) (lists : Lists) (X : Proposed Lists) (p : Placing) (m : KeptMembers) : Type 0 where
+pub record Accepted (s : Setup) (lists : Lists) (X : Proposed Lists) (p : ProposedAt) (m : KeptMembers) : Type 0 where
   pub after : Lists
   pub becomes : X ≡ placed p.place p.term after
   pub members : AreMembers s m after
@@ -131,7 +131,7 @@ pub record Accepted (s : Setup) (lists : Lists) (X : Proposed Lists) (p : Placin
   pub some : 0 < p.place
   pub grows : (member : ℕ) → Begins (list_at lists member) (list_at after member)
 
-placed_by : (s : Setup) (lists : Lists) (entry : Entry) (p : Placing) (m : KeptMembers) (b d : Bool)
+placed_by : (s : Setup) (lists : Lists) (entry : Entry) (p : ProposedAt) (m : KeptMembers) (b d : Bool)
     → IsProposed s lists (cond b (cond d (full (length (list_at lists 1))) (placed (length (list_at lists 1) + 1) 1 (appended lists entry))) elsewhere)
     (proposal.Placed p) m
     → Accepted s lists (cond b (cond d (full (length (list_at lists 1))) (placed (length (list_at lists 1) + 1) 1 (appended lists entry))) elsewhere) p m
@@ -142,15 +142,15 @@ placed_by s lists entry p m true false k =
     let same : p ≡ record { place = length (list_at lists 1) + 1; term = 1 } = cc in
     record {
       after = appended lists entry;
-      becomes = ap (λ (q : Placing). placed q.place q.term (appended lists entry)) (sym same);
+      becomes = ap (λ (q : ProposedAt). placed q.place q.term (appended lists entry)) (sym same);
       members = k.1;
       count = length-set lists 0 _;
-      some = omega (arith, ap (λ (q : Placing). q.place) same);
+      some = omega (arith, ap (λ (q : ProposedAt). q.place) same);
       grows = λ member.
           grows_set lists 0 (list_at lists 1 ++ (item_of entry ∷ [])) (begins_more (list_at lists 1) (item_of entry ∷ [])) (member - 1);
     }
 
-pub was_placed : (s : Setup) (lists : Lists) (member : ℕ) (entry : Entry) (m : KeptMembers) (p : Proposal) (place : Placing)
+pub was_placed : (s : Setup) (lists : Lists) (member : ℕ) (entry : Entry) (m : KeptMembers) (p : Proposal) (place : ProposedAt)
     → IsProposed s lists ((cluster_of s).propose lists member entry) p m → p ≡ proposal.Placed place
     → Accepted s lists ((cluster_of s).propose lists member entry) place m
 was_placed s lists member entry m p place k e =

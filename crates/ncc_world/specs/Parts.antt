@@ -29,7 +29,7 @@ use Rattle.ncc_session.specs.Question.{Question, Row}
 use Rattle.ncc_clients.specs.Four.{Begins}
 use Rattle.ncc_clients.specs.Turn.{Settles, Turn, AtRest, Does, IsEntryOf, acts}
 use Rattle.ncc_world.specs.declared.setup.Setup.{Setup}
-use Rattle.ncc_world.specs.declared.served.Placing.{Placing}
+use Rattle.ncc_world.specs.declared.served.ProposedAt.{ProposedAt}
 use Rattle.ncc_world.specs.declared.served.Served.{Served}
 use Rattle.ncc_world.specs.declared.served.Change.{Change}
 use Rattle.ncc_world.specs.declared.served.Change.TheVariants as change
@@ -124,7 +124,7 @@ abbrev pub left_in : Clients → ℕ
 left_in k = sum_by left_at (values k.table)
 
 -- what a change does to that, where the connection's entry was proposed so
-abbrev pub Lowers : Change → Option Placing → ℕ → ℕ → Type 0
+abbrev pub Lowers : Change → Option ProposedAt → ℕ → ℕ → Type 0
 Lowers (change.Told fact) placing old new = new < old
 Lowers (change.Placed p) placing old new = placing ≡ None → new < old
 Lowers _ placing old new = Unit {0}
@@ -155,7 +155,7 @@ first_acting s r = first_where (acts (cluster_of s) r) r.clients
 
 -- ---- answers
 
-abbrev pub placed_at : Placing → Placing
+abbrev pub placed_at : ProposedAt → Placing
 placed_at p = record { place = p.place; term = p.term }
 
 abbrev pub reply_in : declared.Reply → Reply
@@ -189,7 +189,7 @@ RunsToLast g calls result =
     × IfOk result (λ r. last_rows (front ++ r.rows) ≡ last_rows r.rows) × IfOk result (λ r. IsOver g r.delta)
 
 -- what a question is answered by, of the connection
-pub record IsAskedOf (s : Setup) (now : ℕ) (member deadline : ℕ) (placing : Option Placing) (r : ListRun) (c : Client) : Type 0 where
+pub record IsAskedOf (s : Setup) (now : ℕ) (member deadline : ℕ) (placing : Option ProposedAt) (r : ListRun) (c : Client) : Type 0 where
   pub now_is : now ≡ r.now
   pub member_is : member ≡ c.member
   pub deadline_is : deadline ≡ deadline_of (cluster_of s) c

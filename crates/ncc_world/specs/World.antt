@@ -17,7 +17,7 @@ use Rattle.ncc_world.specs.declared.error.WorldError.TheVariants.{Memory, Limit}
 use Rattle.ncc_world.specs.declared.seen.MemberSeen.{MemberSeen}
 use Rattle.ncc_world.specs.declared.seen.ConnSeen.{ConnSeen}
 use Rattle.ncc_world.specs.declared.earlier.Earlier.{Earlier}
-use Rattle.ncc_world.specs.declared.served.Placing.{Placing}
+use Rattle.ncc_world.specs.declared.served.ProposedAt.{ProposedAt}
 use Rattle.ncc_world.specs.declared.served.Served.{Served}
 use Rattle.ncc_world.specs.Setting.{Lists, cluster_of, list_at}
 use Rattle.ncc_world.specs.Happening.{ListRun}
@@ -65,7 +65,7 @@ pub record KeptClients : Type 0 where
   pub rooms : List (List Parked)
   pub live : List (List ℕ)
 
-abbrev pub placing_of : Option Placing → Option Placing
+abbrev pub placing_of : Option ProposedAt → Option Placing
 placing_of None = None
 placing_of (Some p) = Some (record { place = p.place; term = p.term })
 

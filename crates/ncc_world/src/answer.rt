@@ -19,7 +19,7 @@ ghost use Rattle.ncc_world.specs.declared.setup.Setup.{Setup as Setups};
 
 use crate::earlier::Earlier;
 use crate::members::{Members, leader, leads};
-use crate::served::Placing;
+use crate::served::ProposedAt;
 use crate::setup::Setup;
 use ncc_apply::{Shelf, Stamp, View};
 use ncc_pack::{Memory, Rows, Sequence};
@@ -169,7 +169,7 @@ fn rows(
 }
 
 // What stands at the place of a proposal.
-fn stamped(place: Placing, stamp: Stamp) -> Fact
+fn stamped(place: ProposedAt, stamp: Stamp) -> Fact
     ensures { result ≡ found_at (placed_at place) stamp }
 {
     if stamp.term != place.term {
@@ -186,7 +186,7 @@ fn stamped(place: Placing, stamp: Stamp) -> Fact
 }
 
 // Whether an entry that was proposed is applied.
-fn land(shelf: &Shelf, place: Placing, now: u64, deadline: u64) -> Reply
+fn land(shelf: &Shelf, place: ProposedAt, now: u64, deadline: u64) -> Reply
     ensures exact { (h : List Items) → ShelfStands shelf.now h →
         reply_in result ≡ lands h now (placed_at place) (outcome_of (length h) place.place now deadline) }
     ensures nothing { KeepsNothing result }
@@ -210,7 +210,7 @@ fn land(shelf: &Shelf, place: Placing, now: u64, deadline: u64) -> Reply
 }
 
 // Whether a transaction is done.
-fn leave(shelf: &Shelf, writes: bool, placing: Option<Placing>, now: u64, deadline: u64) -> Reply
+fn leave(shelf: &Shelf, writes: bool, placing: Option<ProposedAt>, now: u64, deadline: u64) -> Reply
     ensures exact { (h : List Items) → ShelfStands shelf.now h →
         reply_in result ≡ leaves h now deadline writes (placing_of placing) }
     ensures nothing { KeepsNothing result }
@@ -232,7 +232,7 @@ pub(crate) fn answered(
     member: u8,
     ask: &Ask,
     earlier: Option<Earlier>,
-    placing: Option<Placing>,
+    placing: Option<ProposedAt>,
     now: u64,
     deadline: u64,
 ) -> Result<Reply, Memory>

@@ -14,7 +14,7 @@ ghost use Rattle.ncc_world.specs.declared.served.Served.{Served as Serveds};
 
 use crate::config::config;
 use crate::seen::{ConnList, ConnSeen};
-use crate::served::{Change, Placing, Served, alter, question, show};
+use crate::served::{Change, ProposedAt, Served, alter, question, show};
 use crate::setup::Setup;
 use crate::taken::taken;
 use indexmap::{IndexMap, IndexSet};
@@ -35,7 +35,7 @@ pub(crate) struct Clients {
 }
 
 // The place of a proposal, 0 where there is none.
-fn place_for(placing: Option<Placing>) -> u64
+fn place_for(placing: Option<ProposedAt>) -> u64
     ensures { result ≡ place_for (placing_of placing) }
 {
     match placing {
@@ -45,7 +45,7 @@ fn place_for(placing: Option<Placing>) -> u64
 }
 
 // The place that a question waits for, 0 for one that can be answered at once.
-fn need(ask: &Ask, placing: Option<Placing>) -> u64
+fn need(ask: &Ask, placing: Option<ProposedAt>) -> u64
     ensures { result ≡ need_for (question_of ask.now) (placing_of placing) }
 {
     match ask {

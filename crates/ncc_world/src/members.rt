@@ -14,7 +14,7 @@ ghost use Rattle.ncc_world.specs.declared.setup.Setup.{Setup as Setups};
 
 use crate::log::Log;
 use crate::seen::{MemberList, MemberSeen, Shown};
-use crate::served::Placing;
+use crate::served::ProposedAt;
 use crate::setup::Setup;
 use crate::taken::taken;
 use ncc_apply::{Shelf, View};
@@ -38,7 +38,7 @@ pub(crate) enum Proposal {
     /// Its log has so many entries, as many as it may have.
     Full(u64),
     /// It stands there.
-    Placed(Placing),
+    Placed(ProposedAt),
 }
 
 /// Whether a member, numbered from 1, leads.
@@ -195,7 +195,7 @@ impl Members {
             term: 1,
             entry: entry.copy()?,
         })?;
-        Ok(Proposal::Placed(Placing {
+        Ok(Proposal::Placed(ProposedAt {
             place: entries + 1,
             term: 1,
         }))

@@ -16,7 +16,7 @@ use ncc_session::{Ask, Conn, ConnState, Fact};
 
 /// Where an entry was proposed that waits to be applied.
 #[derive(Clone, Copy, Debug, PartialEq, Eq)]
-pub(crate) struct Placing {
+pub(crate) struct ProposedAt {
     pub(crate) place: u64,
     pub(crate) term: u64,
 }
@@ -27,7 +27,7 @@ pub(crate) struct Served {
     pub(crate) conn: Conn,
     /// From when on its question waits, in milliseconds.
     pub(crate) since: u64,
-    pub(crate) placing: Option<Placing>,
+    pub(crate) placing: Option<ProposedAt>,
     /// The client closed it.
     pub(crate) closed: bool,
 }
@@ -40,7 +40,7 @@ pub(crate) enum Change {
     /// Its question is answered.
     Told(Fact),
     /// Its entry was proposed.
-    Placed(Placing),
+    Placed(ProposedAt),
     /// The client closes it.
     Closed,
 }
