@@ -1,21 +1,22 @@
 -- A turn, part by part: room was made, the core stepped, its change was saved.
-use Rattle.std.proofs.Common.{◌≡◌, ◌⊎◌, inl, inr, ⊎_elim, ℕ, ◌+◌, ◌≤◌, ◌<◌, false, true, List, [], ◌++◌, length, take, drop, Result, Ok, Err, refl, sym}
+use Rattle.std.proofs.Common.{◌≡◌, ◌⊎◌, inl, inr, ⊎_elim, ℕ, ◌+◌, ◌≤◌, ◌<◌, false, true, List, [], ◌∷◌, ◌++◌, length, take, drop, Result, Ok, Err, Option, Some, None, refl, sym}
 use Rattle.std.proofs.Common.{ap, ◌∙◌, subst, arith}
 use Rattle.std.proofs.lemmas.List.{append-nil, length-drop, take-append-drop, take-take}
 use Rattle.ncc_base.specs.declared.disk.Disk.{Ghosts}
-use Rattle.ncc_base.specs.Disk.{LeavesOnly, Only}
+use Rattle.ncc_base.specs.Disk.{Asked, LeavesOnly, Only}
 use Rattle.ncc_base.specs.Faults.{Rose}
 use Rattle.ncc_tx.specs.declared.entry.ChangeSet.{ChangeSet}
 use Rattle.ncc_tx.specs.declared.entry.Item.{Item}
 use Rattle.ncc_tx.specs.declared.entry.Saved.{Saved}
-use Rattle.ncc_tx.specs.Kept.{IsChange, MayFollow, max_items, part_after, payload}
-use Rattle.ncc_tx.proofs.Changes.{leads}
+use Rattle.ncc_tx.specs.Kept.{IsChange, Leads, MayFollow, max_items, part_after, payload}
+use Rattle.ncc_tx.proofs.Changes.{leads, one}
 use Rattle.ncc_log.specs.declared.error.JournalError.{JournalError}
 use Rattle.ncc_log.specs.declared.error.JournalError.TheVariants as refused
-use Rattle.ncc_log.specs.Calls.{MakesRoom}
+use Rattle.ncc_log.specs.Calls.{Asks, AsksUntilFailed, MakesRoom, gated, stopped}
+use Rattle.ncc_log.specs.Records.{recorded}
 use Rattle.ncc_log.specs.Saves.{BeforeOrAfter, Saves}
 use Rattle.ncc_log.specs.Shown.{IsSame, Shown}
-use Rattle.ncc_log.proofs.Moments.{joins, weaker}
+use Rattle.ncc_log.proofs.Moments.{WentOn, asks_on, joins, weaker}
 use Rattle.ncc_raft.specs.Appending.{applied}
 use Rattle.ncc_raft.specs.Core.{IsCore, IsSeat, IsSound, Seated}
 use Rattle.ncc_raft.specs.Laws.{MayCome}
@@ -24,7 +25,7 @@ use Rattle.ncc_raft.specs.Step.{step}
 use Rattle.ncc_raft.proofs.Never.{never}
 use Rattle.ncc_raft.proofs.Savings as savings
 use Rattle.ncc_raft.proofs.Stays.{stays}
-use Rattle.ncc_member.specs.Answers.{GoesOn}
+use Rattle.ncc_member.specs.Answers.{GoesOn, calls_of}
 use Rattle.ncc_member.specs.Journaled.{Agrees, Rests}
 use Rattle.ncc_member.specs.Room.{Suffices}
 
@@ -167,3 +168,35 @@ module _ {D : Type 0} (g : Ghosts D) where
             same.member refl h))
         (λ h. inr (saves_as mid.cluster old.cluster mid.member old.member (part_after (kept core.member) c) after b same.cluster
             same.member is h)) either)
+
+  -- what the disk was asked behind the room
+  behind : WentOn g → (old mid new : D) (calls : List Asked) → MakesRoom g old mid → g.told → Asks g mid new calls → Asks g old new calls
+  behind law old mid new calls makes told asks =
+      asks_on g law old mid new [] calls (makes.looks.time told).later (makes.looks.asked told) asks
+
+  -- nothing, where the saved part stays
+  pub none_asked : (old mid : D) (gate : ℕ) (was now : Saved) (c : Option ChangeSet) → MakesRoom g old mid → g.told →
+      Leads was now None → Leads was now c → Asks g old mid (calls_of gate c)
+  none_asked old mid gate was now c makes told none other =
+      subst (λ (x : Option ChangeSet). Asks g old mid (calls_of gate x)) (one was now None c none other) (makes.looks.asked told)
+
+  -- a save, where it changed
+  pub save_asked : WentOn g → (old mid new : D) (gate at : ℕ) (was now : Saved) (change : ChangeSet) (c : Option ChangeSet) →
+      MakesRoom g old mid → g.told → at ≡ gate → Leads was now (Some change) → Leads was now c
+      → Asks g mid new (gated at (recorded change ++ 0 ∷ [])) → Asks g old new (calls_of gate c)
+  save_asked law old mid new gate at was now change c makes told same is other asks =
+      subst (λ (x : Option ChangeSet). Asks g old new (calls_of gate x)) (one was now (Some change) c is other)
+      (behind law old mid new (gated gate (recorded change ++ 0 ∷ [])) makes told
+      (subst (λ (k : ℕ). Asks g mid new (gated k (recorded change ++ 0 ∷ []))) same asks))
+
+  -- or the front of one, up to the call that failed
+  pub save_stopped : WentOn g → (old mid new : D) (gate at : ℕ) (was now : Saved) (change c : ChangeSet) →
+      MakesRoom g old mid → g.told → at ≡ gate → IsChange was now change → IsChange was now c
+      → AsksUntilFailed g mid new (gated at (recorded change ++ 0 ∷ []))
+      → AsksUntilFailed g old new (calls_of gate (Some c))
+  save_stopped law old mid new gate at was now change c makes told same is other (n, lt, asks) =
+      let whole : gated at (recorded change ++ 0 ∷ []) ≡ calls_of gate (Some c) =
+      ap (λ (k : ℕ). gated k (recorded change ++ 0 ∷ [])) same
+      ∙ ap (λ (x : Option ChangeSet). calls_of gate x) (one was now (Some change) (Some c) is other) in
+      (n, lt, subst (λ (l : List Asked). Asks g old new (stopped n l)) whole
+      (behind law old mid new (stopped n (gated at (recorded change ++ 0 ∷ []))) makes told asks))

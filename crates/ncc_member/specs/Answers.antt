@@ -1,8 +1,12 @@
 -- What a node's answers say.
-use Rattle.std.specs.Prelude.{◌≡◌, ℕ, ◌-◌, true, List, ◌++◌}
+use Rattle.std.specs.Prelude.{◌≡◌, ℕ, ◌-◌, true, List, [], ◌∷◌, ◌++◌, Option, Some, None}
 use Rattle.ncc_base.specs.declared.disk.Disk.{Ghosts}
+use Rattle.ncc_base.specs.Disk.{Asked}
 use Rattle.ncc_base.specs.Faults.{Rose}
+use Rattle.ncc_tx.specs.declared.entry.ChangeSet.{ChangeSet}
 use Rattle.ncc_tx.specs.declared.entry.Item.{Item}
+use Rattle.ncc_log.specs.Calls.{gated}
+use Rattle.ncc_log.specs.Records.{recorded}
 use Rattle.ncc_raft.specs.Appending.{applied}
 use Rattle.ncc_raft.specs.Member.{Member, Outcome}
 use Rattle.ncc_raft.specs.Step.{step}
@@ -32,3 +36,8 @@ Refused g (Down faults) old new = IsDown g new faults
 Refused g Elsewhere old new = new ≡ old
 Refused g (Full entries) old new = new ≡ old
 Refused g Memory old new = IsSame g old new
+
+-- what the disk is asked for a change behind a closed gate: its record, and then the gate; and nothing where there is no change
+abbrev pub calls_of : ℕ → Option ChangeSet → List Asked
+calls_of gate None = []
+calls_of gate (Some c) = gated gate (recorded c ++ 0 ∷ [])

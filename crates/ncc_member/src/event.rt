@@ -38,7 +38,7 @@ pub struct NodeOut {
 #[derive(Clone, Copy, Debug, PartialEq, Eq, Error)]
 pub enum NodeError {
     /// The disk failed, at this event or an earlier one: the node answers this from then on, and is to be recovered.
-    #[error("down: the disk failed {faults} times")]
+    #[error("down, with {faults} faults of the disk")]
     Down {
         /// How often the disk failed since the node was made.
         faults: u64,

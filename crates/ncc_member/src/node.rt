@@ -1,19 +1,21 @@
 //! The node of a core.
 
-ghost use Rattle.std.specs.Prelude.{◌≡◌, ◌≢◌, ◌⊎◌, ◌↔◌, ◌≤◌, ◌<◌, ◌-◌, ℕ, List, [], true, false, Err, IfErr, IfOk, IsTrue, OnOk};
+ghost use Rattle.std.specs.Prelude.{◌≡◌, ◌≢◌, ◌⊎◌, ◌↔◌, ◌≤◌, ◌<◌, ◌-◌, ℕ, [], true, false, Err, Option, Some, IfErr, IfOk, IsTrue, OnOk};
 ghost use Rattle.std.specs.Prelude.{MatchResult, length};
 ghost use Rattle.ncc_base.specs.Disk.{LeavesOnly, Only};
 ghost use Rattle.ncc_base.specs.Faults.{Rose};
+ghost use Rattle.ncc_tx.specs.declared.entry.ChangeSet.{ChangeSet};
 ghost use Rattle.ncc_tx.specs.declared.entry.Saved.{Saved};
+ghost use Rattle.ncc_tx.specs.Kept.{IsChange, Leads};
 ghost use Rattle.ncc_log.specs.declared.error.JournalError.{JournalError};
-ghost use Rattle.ncc_log.specs.Calls.{Arms};
+ghost use Rattle.ncc_log.specs.Calls.{Arms, Asks, AsksUntilFailed};
 ghost use Rattle.ncc_log.specs.Saves.{BeforeOrAfter, IsFree, IsOrFree, IsRefusal, Refuses, Saves, nothing};
 ghost use Rattle.ncc_log.specs.Shown.{Ready, disk_of};
 ghost use Rattle.ncc_raft.specs.Core.{IsSeat};
 ghost use Rattle.ncc_raft.specs.Laws.{MayCome};
 ghost use Rattle.ncc_raft.specs.Member.{is_leader, kept, started};
 ghost use Rattle.ncc_member.specs.declared.event.NodeError.{NodeError};
-ghost use Rattle.ncc_member.specs.Answers.{GoesOn, Refused, stepped};
+ghost use Rattle.ncc_member.specs.Answers.{GoesOn, Refused, calls_of, stepped};
 ghost use Rattle.ncc_member.specs.Event.{is_proposal, meant, placed_by};
 ghost use Rattle.ncc_member.specs.Journaled.{Rests};
 ghost use Rattle.ncc_member.specs.Opening.{StandsTooLong};
@@ -192,6 +194,13 @@ impl<D: Disk> Node<D> {
         // Whatever it answers, at any moment of it a crash leaves the saved part before the step or behind it.
         ensures any_moment { self.old.down ≡ false → D.told → LeavesOnly D.moment D.left_since self.old.disk self.new.disk
             (BeforeOrAfter self.old.cluster self.old.seat.id (kept self.old.member) (kept (stepped self.old event).member)) }
+
+        // What the disk was asked: a save where the saved part changed, and else nothing; where one of its calls failed, that is the last.
+        ensures asked { OnOk result (D.told → (c : Option ChangeSet) → Leads (kept self.old.member) (kept self.new.member) c →
+            Asks D.Disk self.old.disk self.new.disk (calls_of self.old.gate c)) }
+        ensures stopped { self.old.down ≡ false → (faults : ℕ) → result ≡ Err (NodeError.Down faults) → D.told → (c : ChangeSet) →
+            IsChange (kept self.old.member) (kept (stepped self.old event).member) c →
+            AsksUntilFailed D.Disk self.old.disk self.new.disk (calls_of self.old.gate (Some c)) }
 
         // Whatever it answers, the member is that from before the step or from behind it, and what was committed stays.
         ensures one_of { (self.new.member ≡ self.old.member) ⊎ (self.new.member ≡ (stepped self.old event).member) }

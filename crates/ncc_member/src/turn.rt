@@ -1,15 +1,17 @@
 //! One turn of a node: room, the core's step, the save, and only then what is handed out.
 
-ghost use Rattle.std.specs.Prelude.{◌≡◌, ◌≢◌, ◌↔◌, ◌≤◌, ℕ, false, Err, None, IsTrue, IfOk, OnErr, OnOk};
+ghost use Rattle.std.specs.Prelude.{◌≡◌, ◌≢◌, ◌↔◌, ◌≤◌, ℕ, Err, Option, Some, IsTrue, IfOk, OnErr, OnOk};
 ghost use Rattle.ncc_base.specs.Disk.{LeavesOnly};
 ghost use Rattle.ncc_base.specs.Faults.{Rose};
-ghost use Rattle.ncc_tx.specs.Kept.{Leads};
-ghost use Rattle.ncc_log.specs.Calls.{MakesRoom};
+ghost use Rattle.ncc_tx.specs.declared.entry.ChangeSet.{ChangeSet};
+ghost use Rattle.ncc_tx.specs.Kept.{IsChange, Leads};
+ghost use Rattle.ncc_log.specs.Calls.{Asks, AsksUntilFailed, MakesRoom};
 ghost use Rattle.ncc_log.specs.Saves.{BeforeOrAfter};
 ghost use Rattle.ncc_log.specs.Shown.{IsSame};
 ghost use Rattle.ncc_raft.specs.Laws.{MayCome};
 ghost use Rattle.ncc_raft.specs.Member.{kept};
 ghost use Rattle.ncc_raft.specs.Step.{step};
+ghost use Rattle.ncc_member.specs.Answers.{calls_of};
 ghost use Rattle.ncc_member.specs.Event.{meant, placed_by, refusal};
 ghost use Rattle.ncc_member.specs.Journaled.{Agrees};
 
@@ -40,6 +42,7 @@ pub(crate) fn refusal(core: &Core, limit: u64, event: &NodeEvent) -> Option<Node
 }
 
 /// What a step hands out, and where it placed a proposal.
+#[derive(Drop)]
 struct Taken {
     placed: Option<(u64, u64)>,
     step: Step,
@@ -100,6 +103,10 @@ pub(crate) fn turn<D: Disk>(
     ensures any_moment { D.told → LeavesOnly D.moment D.left_since journal.old.disk journal.new.disk
         (BeforeOrAfter journal.old.cluster journal.old.member (kept core.old.member)
         (kept (step core.old.seat core.old.member (meant event)).member)) }
+    ensures asked { OnOk result (D.told → (c : Option ChangeSet) → Leads (kept core.old.member) (kept core.new.member) c →
+        Asks D.Disk journal.old.disk journal.new.disk (calls_of journal.old.gate c)) }
+    ensures stopped { result ≡ Err Broken.Fault → D.told → (c : ChangeSet) → IsChange (kept core.old.member) (kept core.new.member) c →
+        AsksUntilFailed D.Disk journal.old.disk journal.new.disk (calls_of journal.old.gate (Some c)) }
     ensures memory { result ≡ Err Broken.Memory → IsSame journal.old journal.new
         × MakesRoom D.Disk journal.old.disk journal.new.disk × (core.new ≡ core.old) }
     ensures fault { result ≡ Err Broken.Fault → Rose (D.fault_count journal.old.disk) (D.fault_count journal.new.disk)
@@ -108,7 +115,8 @@ pub(crate) fn turn<D: Disk>(
     ensures calm { D.calm journal.old.disk → D.calm journal.new.disk }
     ensures calm_ok { D.calm journal.old.disk → result ≡ Err Broken.Fault → ⊥ }
 {
-    journal.reserve(most_payload(&event))?;
+    let most = most_payload(&event);
+    journal.reserve(most)?;
     let Taken { placed, step } = take(core, event)?;
     let Step { change, out, note } = step;
     match change {
