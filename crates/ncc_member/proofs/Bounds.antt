@@ -17,8 +17,10 @@ use Rattle.ncc_tx.specs.Items.{counted, entry_allowed, item_bytes, items_bytes}
 use Rattle.ncc_tx.specs.Kept.{IsChange, payload}
 use Rattle.ncc_tx.specs.Spelled.{spelled}
 use Rattle.ncc_tx.proofs.ItemBytes.{length_counted, length_item, length_payload}
+use Rattle.ncc_raft.specs.declared.message.Body.{Body}
+use Rattle.ncc_raft.specs.declared.message.Body.TheVariants.{VoteAsk, VoteReply, Append, AppendReply, Pull, Batch}
 use Rattle.ncc_raft.specs.declared.message.Envelope.{Envelope}
-use Rattle.ncc_raft.specs.Carried.{Carried}
+use Rattle.ncc_raft.specs.Carried.{Carried, FitBehind, IsWithin, append_head}
 use Rattle.ncc_raft.specs.Core.{IsSeat, IsSound}
 use Rattle.ncc_raft.specs.Elections.{noop_of}
 use Rattle.ncc_raft.specs.Laws.{Brings, Ends, items_in}
@@ -58,6 +60,29 @@ noop_long seat m = go (nat_lt (length m.log) seat.limit)
     go : (b : Bool) → length (counted (if b then record { term = m.term; entry = Noop } ∷ [] else [])) ≤ 17
     go true = omega (arith, noop_spelled, one_long (record { term = m.term; entry = Noop }))
     go false = omega (arith, none_long)
+
+-- ---- a message
+
+pub append_fits : (body : Body) (t prev prev_term commit : ℕ) (items : List Item) → IsWithin body →
+    body ≡ Append t prev prev_term commit items → FitBehind append_head items
+append_fits body t prev prev_term commit items within is = (subst (λ (b : Body). IsWithin b) is within).5
+
+-- one without items has room enough for an empty entry
+bare : (body variant : Body) → body ≡ variant → items_in variant ≡ [] → 34 ≡ 17 + max 17 (length (counted (items_in body)))
+bare body variant is none = omega (arith, none_long, ap (λ (b : Body). length (counted (items_in b))) is,
+    ap (λ (l : List Item). length (counted l)) none)
+
+abbrev pub Without : Body → Type 0
+Without body = ((x : ℕ) × (y : ℕ) × (z : ℕ) × (body ≡ VoteAsk x y z)) ⊎ (((x : ℕ) × (y : Bool) × (body ≡ VoteReply x y))
+    ⊎ (((x : ℕ) × (y : Bool) × (z : ℕ) × (body ≡ AppendReply x y z)) ⊎ (((x : ℕ) × (body ≡ Pull x))
+    ⊎ ((x : ℕ) × (y : List Item) × (body ≡ Batch x y)))))
+
+pub without_items : (body : Body) → Without body → 34 ≡ 17 + max 17 (length (counted (items_in body)))
+without_items body (inl (x, y, z, is)) = bare body (VoteAsk x y z) is refl
+without_items body (inr (inl (x, y, is))) = bare body (VoteReply x y) is refl
+without_items body (inr (inr (inl (x, y, z, is)))) = bare body (AppendReply x y z) is refl
+without_items body (inr (inr (inr (inl (x, is))))) = bare body (Pull x) is refl
+without_items body (inr (inr (inr (inr (x, y, is))))) = bare body (Batch x y) is refl
 
 -- ---- a change
 

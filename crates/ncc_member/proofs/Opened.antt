@@ -39,7 +39,7 @@ module _ (cluster member limit : ℕ) (b : List ℕ) (saved : Saved) (saves : Sa
   pub fault_start : (error : JournalError) → NoStart limit saved error → error ≡ e.DiskFault → ⊥
   fault_start error (inl is) fault = let bad : e.Memory ≡ e.DiskFault = sym is ∙ fault in cc
   fault_start error (inr (inl (is, longer))) fault = let bad : e.Full ≡ e.DiskFault = sym is ∙ fault in cc
-  fault_start error (inr (inr (is, no))) fault = let bad : e.Damaged 14 ≡ e.DiskFault = sym is ∙ fault in cc
+  fault_start error (inr (inr (is, bad_part))) fault = let bad : e.Damaged 14 ≡ e.DiskFault = sym is ∙ fault in cc
 
   pub never_refused : (error : JournalError) → cluster < 2 ^ 64 → Refuses cluster member b error → ⊥
   never_refused error few r = apart cluster member b saved error few saves r

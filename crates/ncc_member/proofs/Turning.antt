@@ -1,5 +1,5 @@
 -- A turn, part by part: room was made, the core stepped, its change was saved.
-use Rattle.std.proofs.Common.{◌≡◌, ◌⊎◌, inl, inr, ⊎_elim, ℕ, ◌+◌, ◌≤◌, ◌<◌, false, true, List, [], ◌∷◌, ◌++◌, length, take, drop, Result, Ok, Err, Option, Some, None, refl, sym}
+use Rattle.std.proofs.Common.{◌≡◌, ◌⊎◌, inl, inr, ⊎_elim, ℕ, ◌+◌, ◌≤◌, ◌<◌, Bool, false, true, List, [], ◌∷◌, ◌++◌, length, take, drop, Result, Ok, Err, Option, Some, None, refl, sym}
 use Rattle.std.proofs.Common.{ap, ◌∙◌, subst, arith}
 use Rattle.std.proofs.lemmas.List.{append-nil, length-drop, take-append-drop, take-take}
 use Rattle.ncc_base.specs.declared.disk.Disk.{Ghosts}
@@ -93,6 +93,10 @@ pub by_fault : {T : Type 0} (r : Result T JournalError) (e : JournalError) → r
 by_fault r e is (inl fault) full memory = is ∙ ap Err fault
 by_fault r e is (inr (inl here)) full memory = absurd (full (is ∙ ap Err here))
 by_fault r e is (inr (inr here)) full memory = absurd (memory (is ∙ ap Err here))
+
+pub rose_by : (old mid new : ℕ) (failed : Bool) → mid ≡ old → failed ≡ false → (failed ≡ true) ⊎ Rose mid new → Rose old new
+rose_by old mid new failed same sound (inl h) = let bad : false ≡ true = sym sound ∙ h in absurd (cc)
+rose_by old mid new failed same sound (inr r) = subst (λ (k : ℕ). Rose k new) same r
 
 -- ---- the journal
 

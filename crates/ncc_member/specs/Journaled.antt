@@ -53,16 +53,16 @@ abbrev pub Rests : {D : Type 0} → Ghosts D → ℕ → ℕ → D → Saved →
 Rests g cluster member disk s = (c : List ℕ) → g.may_leave disk c → Saves cluster member c s
 
 -- a journal that did not fail, and the core whose saved part it holds
-pub record Agrees {D : Type 0} (g : Ghosts D) (j : Shown D) (core : Seated) : Type 0 where
+pub record Agrees {D : Type 0} (g : Ghosts D) (j : Shown D) (c : Seated) : Type 0 where
   pub sound : j.failed ≡ false
-  pub member : j.member ≡ core.seat.id
-  pub core : IsCore core
-  pub rests : g.told → Rests g j.cluster j.member j.disk (kept core.member)
+  pub member : j.member ≡ c.seat.id
+  pub core : IsCore c
+  pub rests : g.told → Rests g j.cluster j.member j.disk (kept c.member)
 
 -- what every node keeps
-pub record IsNode {D : Type 0} (g : Ghosts D) (j : Shown D) (core : Seated) (limit made : ℕ) (down : Bool) : Type 0 where
+pub record IsNode {D : Type 0} (g : Ghosts D) (j : Shown D) (core : Seated) (most made : ℕ) (down : Bool) : Type 0 where
   pub up : down ≡ false → Agrees g j core
-  pub limit : limit ≡ core.seat.limit
+  pub limit : most ≡ core.seat.limit
   pub falls : made ≤ g.fault_count j.disk
   pub rose : down ≡ true → Rose made (g.fault_count j.disk)
 
