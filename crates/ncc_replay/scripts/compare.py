@@ -15,8 +15,9 @@ import subprocess
 import sys
 
 sys.dont_write_bytecode = True
-from reference import ENDED, GET, PUT, Refused, World, event_of, replay  # noqa: E402
+from reference import event_of, replay  # noqa: E402
 from second.values import HANDSHAKE, REQUESTS, bookmark, chunked  # noqa: E402
+from second.world import ENDED, GET, PUT, ListWorld, Refused  # noqa: E402
 
 STATEMENTS = ["RETURN 1", "RETURN $x, 'a' AS b", "RETURM 1", "RETURN $y", "RETURN $x + 'a'", "RETURN 9223372036854775807 + $x",
               "CREATE (:A {k: $x})", "CREATE (n:A {k: 'a', l: $x}) RETURN n", "MERGE (n:A {k: $x}) RETURN n.k", "MERGE (n:A {k: null})",
@@ -49,7 +50,7 @@ class Maker:
         self.cluster = self.chance.choice([1, 1, 7, 2 ** 64 - 1])
         cores, replicas, wait = self.chance.randint(1, 3), self.chance.randint(0, 2), self.chance.choice([0, 3, 100])
         wait = self.chance.choice([wait, 3000, 30_000]) if drivers else wait
-        self.world = World(cores, replicas, self.cluster, wait)
+        self.world = ListWorld(cores, replicas, self.cluster, wait)
         self.lines = ["ncc-script 1", f"cluster list {cores} {replicas} {self.cluster} {wait}"]
         self.held = {}  # the bytes that a connection has still to say
 
@@ -135,7 +136,7 @@ class Maker:
         return min(self.chance.choice(moments), 2 ** 64 - 1)
 
     def line(self):
-        chance, members = self.chance, list(self.world.at)
+        chance, members = self.chance, list(self.world.members())
         opened = [number for number, conn in self.world.conns.items() if conn.opener == "open" and conn.session.state != ENDED]
         kind = chance.choice(["put", "get", "get", "apply", "apply", "time", "open", "close"] + ["bytes"] * 8)
         if self.drivers and chance.random() < 0.7:
