@@ -17,28 +17,28 @@ use Rattle.ncc_bolt.specs.declared.message.Request.{Request}
 use Rattle.ncc_world.specs.Requests.{client_bytes}
 use Rattle.ncc_world.specs.Setting.{Lists, cluster_of, list_at, appended, extended, item_of, lagging}
 use Rattle.ncc_world.specs.Setting as setting
-use Rattle.ncc_world.specs.Happening.{ListRun, asks}
+use Rattle.ncc_world.specs.Happening.{WorldRun, asks}
 use Rattle.ncc_world.specs.Drivers.{AreAtWork}
 use Rattle.ncc_world.specs.World.{RunsAs}
 use Rattle.ncc_world.specs.Parts.{RunsMid, drivers_in, run_in}
 
-pub record Aside (r t : ListRun) : Type 0 where
+pub record Aside (r t : WorldRun) : Type 0 where
   pub now : t.now ≡ r.now
   pub driving : t.driving ≡ r.driving
-  pub members : length t.members ≡ length r.members
+  pub members : length (lists_of t.members) ≡ length (lists_of r.members)
 
-pub aside_same : (r : ListRun) → Aside r r
+pub aside_same : (r : WorldRun) → Aside r r
 aside_same r = record { now = refl; driving = refl; members = refl }
 
-pub aside_through : (r s t : ListRun) → Aside r s → Aside s t → Aside r t
+pub aside_through : (r s t : WorldRun) → Aside r s → Aside s t → Aside r t
 aside_through r s t h g = record { now = g.now ∙ h.now; driving = g.driving ∙ h.driving; members = g.members ∙ h.members }
 
 -- ---- connections
 
-pub opened_aside : (r : ListRun) (member : ℕ) (printed : Bool) → Aside r (opened r member printed)
+pub opened_aside : (r : WorldRun) (member : ℕ) (printed : Bool) → Aside r (opened r member printed)
 opened_aside r member printed = record { now = refl; driving = refl; members = refl }
 
-pub feeds_aside : (s : Setup) (r : ListRun) (i : ℕ) (piece : List ℕ) → Aside r (feeds (cluster_of s) r i piece)
+pub feeds_aside : (s : Setup) (r : WorldRun) (i : ℕ) (piece : List ℕ) → Aside r (feeds (cluster_of s) r i piece)
 feeds_aside s r i piece = go (slice_get r.clients i) where
   one : (c : Client) (b : Bool) → Aside r (if b then r else fed (cluster_of s) r i c piece)
   one c true = aside_same r
@@ -48,7 +48,7 @@ feeds_aside s r i piece = go (slice_get r.clients i) where
   go None = aside_same r
   go (Some c) = one c c.closed
 
-pub closes_aside : (r : ListRun) (i : ℕ) → Aside r (closes r i)
+pub closes_aside : (r : WorldRun) (i : ℕ) → Aside r (closes r i)
 closes_aside r i = go (slice_get r.clients i) where
   one : (c : Client) (b : Bool) → Aside r (if b then r else closed_at r i c)
   one c true = aside_same r
@@ -59,28 +59,28 @@ closes_aside r i = go (slice_get r.clients i) where
   go (Some c) = one c c.closed
 
 -- past the last connection nothing happens
-pub feeds_past : (s : Setup) (r : ListRun) (i : ℕ) (piece : List ℕ) → length r.clients ≤ i → r ≡ feeds (cluster_of s) r i piece
+pub feeds_past : (s : Setup) (r : WorldRun) (i : ℕ) (piece : List ℕ) → length r.clients ≤ i → r ≡ feeds (cluster_of s) r i piece
 feeds_past s r i piece h = sym (ap (λ (o : Option Client). feeds_one (cluster_of s) r i piece o) (slice_get_past r.clients i h))
 
-pub closes_past : (r : ListRun) (i : ℕ) → length r.clients ≤ i → r ≡ closes r i
+pub closes_past : (r : WorldRun) (i : ℕ) → length r.clients ≤ i → r ≡ closes r i
 closes_past r i h = sym (ap (λ (o : Option Client). closes_one r i o) (slice_get_past r.clients i h))
 
-pub asks_aside : (s : Setup) (r : ListRun) (member : ℕ) (request : Request) → Aside r (asks s r member request)
+pub asks_aside : (s : Setup) (r : WorldRun) (member : ℕ) (request : Request) → Aside r (asks s r member request)
 asks_aside s r member request =
-    let o : ListRun = opened r member false in
+    let o : WorldRun = opened r member false in
     aside_through r o (asks s r member request) (opened_aside r member false) (feeds_aside s o (length r.clients) (client_bytes request))
 
 -- ---- members
 
-pub lagging_aside : (s : Setup) (r : ListRun) (member count : ℕ) → Aside r (moved (cluster_of s) r (lagging r.members member count))
+pub lagging_aside : (s : Setup) (r : WorldRun) (member count : ℕ) → Aside r (moved (cluster_of s) r (lagging r.members member count))
 lagging_aside s r member count = record {
   now = refl;
   driving = refl;
-  members = length-set r.members (member - 1) (extended (list_at r.members member) (list_at r.members 1) count);
+  members = length-set r.members (member - 1) (extended (list_at (lists_of r.members) member) (list_at (lists_of r.members) 1) count);
 }
 
 -- so many members stay
-abbrev pub KeepsCount : ℕ → Proposed Lists → Type 0
+abbrev pub KeepsCount : ℕ → Proposed Seats → Type 0
 KeepsCount count elsewhere = Unit {0}
 KeepsCount count (full entries) = Unit {0}
 KeepsCount count (placed place term after) = length after ≡ count
@@ -96,7 +96,7 @@ propose_keeps s lists member entry = by_member (member == 1) where
   by_member true = by_full (nat_le s.limit (length (list_at lists 1)))
   by_member false = tt
 
-proposed_aside : (s : Setup) (line : ℕ) (r : ListRun) (i : ℕ) (c : Client) (p : Proposed Lists) → KeepsCount (length r.members) p
+proposed_aside : (s : Setup) (line : ℕ) (r : WorldRun) (i : ℕ) (c : Client) (p : Proposed Seats) → KeepsCount (length (lists_of r.members)) p
     → Aside r (proposed (cluster_of s) line r i c p)
 proposed_aside s line r i c elsewhere k = record { now = refl; driving = refl; members = refl }
 proposed_aside s line r i c (full entries) k = record { now = refl; driving = refl; members = refl }
@@ -104,27 +104,27 @@ proposed_aside s line r i c (placed place term after) k = record { now = refl; d
 
 -- ---- turns
 
-pub does_aside : (s : Setup) (line : ℕ) (r : ListRun) (i : ℕ) (c : Client) (p : Reply) (t : ListRun) → Does (cluster_of s) line r i c p t
+pub does_aside : (s : Setup) (line : ℕ) (r : WorldRun) (i : ℕ) (c : Client) (p : Reply) (t : WorldRun) → Does (cluster_of s) line r i c p t
     → Aside r t
 does_aside s line r i c waits t h = absurd h
-does_aside s line r i c (tells fact) t h = subst (λ (x : ListRun). Aside r x) (sym h) (record { now = refl; driving = refl; members = refl })
+does_aside s line r i c (tells fact) t h = subst (λ (x : WorldRun). Aside r x) (sym h) (record { now = refl; driving = refl; members = refl })
 does_aside s line r i c proposes t h =
-    subst (λ (x : ListRun). Aside r x) (sym h.2)
+    subst (λ (x : WorldRun). Aside r x) (sym h.2)
     (proposed_aside s line r i c ((cluster_of s).propose r.members c.member h.0) (propose_keeps s r.members c.member h.0))
 
-pub turns_aside : (s : Setup) (line : ℕ) (r t : ListRun) → Turns (cluster_of s) line r t → Aside r t
+pub turns_aside : (s : Setup) (line : ℕ) (r t : WorldRun) → Turns (cluster_of s) line r t → Aside r t
 turns_aside s line r t (Here _) = aside_same r
 turns_aside s line r t (Then _ m _ first rest) =
     aside_through r m t (does_aside s line r first.index first.client (reply (cluster_of s) r first.client) m first.does)
     (turns_aside s line m t rest)
 
-pub settles_aside : (s : Setup) (line : ℕ) (r t : ListRun) → Settles (cluster_of s) line r t → Aside r t
+pub settles_aside : (s : Setup) (line : ℕ) (r t : WorldRun) → Settles (cluster_of s) line r t → Aside r t
 settles_aside s line r t h = turns_aside s line r t h.turns
 
 -- ---- what stands for a run
 
 -- The sessions are in the middle of the same as before.
-pub mid_from : (s : Setup) (at : ℕ) (left : List Action) (pending : List ℕ) (old new : Running) (r t : ListRun)
+pub mid_from : (s : Setup) (at : ℕ) (left : List Action) (pending : List ℕ) (old new : Running) (r t : WorldRun)
     → RunsMid s at left pending old r → RunsAs s (run_in new) t → new.drivers ≡ old.drivers → Aside r t → RunsMid s at left pending new t
 mid_from s at left pending old new r t k runs same aside = record {
   runs_as = runs;

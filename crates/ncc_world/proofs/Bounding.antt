@@ -12,7 +12,7 @@ use Rattle.ncc_clients.specs.Moment.{Small, Ticks, Opens, Feeds, Tells, Offers, 
 use Rattle.ncc_clients.specs.Course.{HasNumbers}
 use Rattle.ncc_world.specs.declared.setup.Setup.{Setup}
 use Rattle.ncc_world.specs.Setting.{IsSetup, Lists, Applies, cluster_of, nobody, list_at, appended, item_of, proposes, extended}
-use Rattle.ncc_world.specs.Happening.{ListRun}
+use Rattle.ncc_world.specs.Happening.{WorldRun}
 use Rattle.ncc_world.proofs.Listed.{reached, first_is}
 
 -- so many at most
@@ -58,14 +58,14 @@ placed_bounded s lists member entry place term after e = go (member == 1) e wher
   go true h = there (nat_le s.limit (length (list_at lists 1))) refl h
   go false h = absurd (cc)
 
-proposed_bounded : (s : Setup) (line : ℕ) (r : ListRun) (i : ℕ) (c : Client) (entry : Entry) (p : Proposed Lists)
+proposed_bounded : (s : Setup) (line : ℕ) (r : WorldRun) (i : ℕ) (c : Client) (entry : Entry) (p : Proposed Lists)
     → (cluster_of s).propose r.members c.member entry ≡ p → Bounded s r.members
     → Bounded s (proposed (cluster_of s) line r i c p).members
 proposed_bounded s line r i c entry elsewhere e h = h
 proposed_bounded s line r i c entry (full entries) e h = h
 proposed_bounded s line r i c entry (placed place term after) e h = placed_bounded s r.members c.member entry place term after e
 
-small_bounded : (s : Setup) (r t : ListRun) → Small (cluster_of s) r t → Bounded s r.members → Bounded s t.members
+small_bounded : (s : Setup) (r t : WorldRun) → Small (cluster_of s) r t → Bounded s r.members → Bounded s t.members
 small_bounded s r t (Ticks _ to le) h = h
 small_bounded s r t (Opens _ member printed) h = h
 small_bounded s r t (Feeds _ i c piece is) h = h
@@ -77,7 +77,7 @@ small_bounded s r t (Restarts _ member members is none) h = absurd is
 small_bounded s r t (Drives _ driving) h = h
 small_bounded s r t (Closes _ i c is) h = h
 
-path_bounded : (s : Setup) (r t : ListRun) → Path (cluster_of s) r t → Bounded s r.members → Bounded s t.members
+path_bounded : (s : Setup) (r t : WorldRun) → Path (cluster_of s) r t → Bounded s r.members → Bounded s t.members
 path_bounded s r t (Here _) h = h
 path_bounded s r t (Then _ m _ first rest) h = path_bounded s m t rest (small_bounded s r m first h)
 
@@ -89,7 +89,7 @@ start_bounded s = go (s.cores + s.replicas) where
 
 pub has_numbers : (s : Setup) → IsSetup s → HasNumbers (cluster_of s) (nobody s)
 has_numbers s setup = record { id = setup.id; places = λ r p. few r p } where
-  few : (r : ListRun) → Path (cluster_of s) (begun (nobody s)) r → length r.history < 2 ^ 64
+  few : (r : WorldRun) → Path (cluster_of s) (begun (nobody s)) r → length r.history < 2 ^ 64
   few r p =
       let bounded : Bounded s r.members = path_bounded s (begun (nobody s)) r p (start_bounded s) in
       omega (arith, bounded, ap length (first_is r (reached s setup r p)), setup.limit.1)

@@ -12,26 +12,26 @@ use Rattle.ncc_clients.specs.Moment.{Small, Ticks, Opens, Feeds, Tells, Offers, 
 use Rattle.ncc_clients.specs.Four.{Begins, Accepts, Four}
 use Rattle.ncc_world.specs.declared.setup.Setup.{Setup}
 use Rattle.ncc_world.specs.Setting.{IsSetup, Lists, list_at, nobody, item_of, appended, proposes, extended, lagging, Applies, cluster_of}
-use Rattle.ncc_world.specs.Happening.{ListRun}
+use Rattle.ncc_world.specs.Happening.{WorldRun}
 use Rattle.ncc_world.proofs.Begun.{begins_self, begins_more, begins_through, begins_length, get_begins, get_last}
 use Rattle.ncc_world.proofs.Begun.{all_begin_more, all_begin_or, all_begin_set, grows_set, extended_begins, longest_stays, longest_first}
 
-pub record Kept (r : ListRun) : Type 0 where
+pub record Kept (r : WorldRun) : Type 0 where
   pub others : Lists
   pub members_are : r.members ≡ r.history ∷ others
   pub begin : AllByRecursion (λ l. Begins l r.history) others
 
 -- the history and every member's list only grow
-pub record Further (r t : ListRun) : Type 0 where
+pub record Further (r t : WorldRun) : Type 0 where
   pub grows : Begins r.history t.history
   pub stays : (member : ℕ) → Begins (list_at r.members member) (list_at t.members member)
 
-pub record Onward (r t : ListRun) : Type 0 where
+pub record Onward (r t : WorldRun) : Type 0 where
   pub kept : Kept t
   pub further : Further r t
 
 -- where neither the members nor the history change
-same_kept : (r t : ListRun) → Kept r → t.members ≡ r.members → t.history ≡ r.history → Onward r t
+same_kept : (r t : WorldRun) → Kept r → t.members ≡ r.members → t.history ≡ r.history → Onward r t
 same_kept r t k e f = record {
   kept = record {
     others = k.others;
@@ -46,10 +46,10 @@ same_kept r t k e f = record {
 }
 
 -- every list begins the history
-pub all_begin : (r : ListRun) → Kept r → AllByRecursion (λ l. Begins l r.history) r.members
+pub all_begin : (r : WorldRun) → Kept r → AllByRecursion (λ l. Begins l r.history) r.members
 all_begin r k = subst (λ ls. AllByRecursion (λ l. Begins l r.history) ls) (sym k.members_are) (begins_self r.history, k.begin)
 
-pub first_is : (r : ListRun) → Kept r → list_at r.members 1 ≡ r.history
+pub first_is : (r : WorldRun) → Kept r → list_at r.members 1 ≡ r.history
 first_is r k = ap (λ ls. list_at ls 1) k.members_are
 
 -- ---- an entry is appended
@@ -79,11 +79,11 @@ placed_is s lists member entry place term after e = go (member == 1) refl e wher
   go false f h = absurd (cc)
 
 -- what the history and the members are then
-pub record Appended (r : ListRun) (k : Kept r) (entry : Entry) (after : Lists) : Type 0 where
+pub record Appended (r : WorldRun) (k : Kept r) (entry : Entry) (after : Lists) : Type 0 where
   pub history_is : longest r.history after ≡ r.history ++ (item_of entry ∷ [])
   pub members_are : after ≡ (r.history ++ (item_of entry ∷ [])) ∷ k.others
 
-pub appended_is : (r : ListRun) (k : Kept r) (entry : Entry) (after : Lists) → after ≡ appended r.members entry
+pub appended_is : (r : WorldRun) (k : Kept r) (entry : Entry) (after : Lists) → after ≡ appended r.members entry
     → Appended r k entry after
 appended_is r k entry after e =
     let new : List Item = r.history ++ (item_of entry ∷ []) in
@@ -96,7 +96,7 @@ appended_is r k entry after e =
       members_are = members;
     }
 
-pub accepted_kept : (s : Setup) (r : ListRun) (k : Kept r) (i : ℕ) (c : Client) (entry : Entry) (place term : ℕ) (after : Lists)
+pub accepted_kept : (s : Setup) (r : WorldRun) (k : Kept r) (i : ℕ) (c : Client) (entry : Entry) (place term : ℕ) (after : Lists)
     → IsPlaced r.members c.member entry place term after → Onward r (accepted (cluster_of s) r i c place term after)
 accepted_kept s r k i c entry place term after p =
     let new : List Item = r.history ++ (item_of entry ∷ []) in
@@ -117,7 +117,7 @@ accepted_kept s r k i c entry place term after p =
       };
     }
 
-offers_kept : (s : Setup) (line : ℕ) (r : ListRun) (k : Kept r) (i : ℕ) (c : Client) (entry : Entry) (p : Proposed Lists)
+offers_kept : (s : Setup) (line : ℕ) (r : WorldRun) (k : Kept r) (i : ℕ) (c : Client) (entry : Entry) (p : Proposed Lists)
     → (cluster_of s).propose r.members c.member entry ≡ p → Onward r (proposed (cluster_of s) line r i c p)
 offers_kept s line r k i c entry elsewhere e = same_kept r (proposed (cluster_of s) line r i c elsewhere) k refl refl
 offers_kept s line r k i c entry (full entries) e = same_kept r (proposed (cluster_of s) line r i c (full entries)) k refl refl
@@ -126,7 +126,7 @@ offers_kept s line r k i c entry (placed place term after) e =
 
 -- ---- a member applies further entries
 
-lagging_is : (r : ListRun) (k : Kept r) (member count : ℕ) → 1 < member
+lagging_is : (r : WorldRun) (k : Kept r) (member count : ℕ) → 1 < member
     → (others : Lists) × (lagging r.members member count ≡ r.history ∷ others) × AllByRecursion (λ l. Begins l r.history) others
 lagging_is r k member count f = go (member - 1) refl where
   own : List Item
@@ -148,7 +148,7 @@ lagging_is r k member count f = go (member - 1) refl where
     all_begin_set r.history k.others i own k.begin own_begins,
   )
 
-moves_kept : (s : Setup) (r : ListRun) (k : Kept r) (members : Lists) → Applies r.members members
+moves_kept : (s : Setup) (r : WorldRun) (k : Kept r) (members : Lists) → Applies r.members members
     → Onward r (moved (cluster_of s) r members)
 moves_kept s r k members a =
     let l : (others : Lists) × (lagging r.members a.member a.count ≡ r.history ∷ others)
@@ -173,7 +173,7 @@ moves_kept s r k members a =
 
 -- ---- every small thing, and every path
 
-pub small_kept : (s : Setup) (r t : ListRun) → Kept r → Small (cluster_of s) r t → Onward r t
+pub small_kept : (s : Setup) (r t : WorldRun) → Kept r → Small (cluster_of s) r t → Onward r t
 small_kept s r t k (Ticks _ to h) = same_kept r t k refl refl
 small_kept s r t k (Opens _ member printed) = same_kept r t k refl refl
 small_kept s r t k (Feeds _ i c piece h) = same_kept r t k refl refl
@@ -184,7 +184,7 @@ small_kept s r t k (Restarts _ member members h none) = absurd h
 small_kept s r t k (Drives _ driving) = same_kept r t k refl refl
 small_kept s r t k (Closes _ i c h) = same_kept r t k refl refl
 
-pub path_kept : (s : Setup) (r t : ListRun) → Kept r → Path (cluster_of s) r t → Onward r t
+pub path_kept : (s : Setup) (r t : WorldRun) → Kept r → Path (cluster_of s) r t → Onward r t
 path_kept s r t k (Here _) = same_kept r r k refl refl
 path_kept s r t k (Then _ m _ first rest) =
     let one : Onward r m = small_kept s r m k first in
@@ -215,20 +215,20 @@ start_kept s h =
 
 -- ---- the four facts
 
-pub reached : (s : Setup) → IsSetup s → (r : ListRun) → Path (cluster_of s) (begun (nobody s)) r → Kept r
+pub reached : (s : Setup) → IsSetup s → (r : WorldRun) → Path (cluster_of s) (begun (nobody s)) r → Kept r
 reached s h r p = (path_kept s (begun (nobody s)) r (start_kept s h) p).kept
 
 -- behind an accepted proposal, the history begins with the list of member 1 and the entry
-record After (r t : ListRun) (entry : Entry) : Type 0 where
+record After (r t : WorldRun) (entry : Entry) : Type 0 where
   kept : Kept t
   begins : Begins (r.history ++ (item_of entry ∷ [])) t.history
 
-after_accepted : (s : Setup) (r t : ListRun) (k : Kept r) (i : ℕ) (c : Client) (entry : Entry) (place term : ℕ) (after : Lists)
+after_accepted : (s : Setup) (r t : WorldRun) (k : Kept r) (i : ℕ) (c : Client) (entry : Entry) (place term : ℕ) (after : Lists)
     → Accepts (cluster_of s) r i c entry place term after → Path (cluster_of s) (accepted (cluster_of s) r i c place term after) t
     → After r t entry
 after_accepted s r t k i c entry place term after a p =
     let is : IsPlaced r.members c.member entry place term after = placed_is s r.members c.member entry place term after a.accepts in
-    let then_ : ListRun = accepted (cluster_of s) r i c place term after in
+    let then_ : WorldRun = accepted (cluster_of s) r i c place term after in
     let one : Onward r then_ = accepted_kept s r k i c entry place term after is in
     let more : Onward then_ t = path_kept s then_ t one.kept p in
     record {
@@ -236,7 +236,7 @@ after_accepted s r t k i c entry place term after a p =
       begins = subst (λ l. Begins l t.history) (appended_is r k entry after is.after_is).history_is more.further.grows;
     }
 
-keeps_one : (s : Setup) (r t : ListRun) (k : Kept r) (i : ℕ) (c : Client) (entry : Entry) (place term : ℕ) (after : Lists) (member : ℕ)
+keeps_one : (s : Setup) (r t : WorldRun) (k : Kept r) (i : ℕ) (c : Client) (entry : Entry) (place term : ℕ) (after : Lists) (member : ℕ)
     (item : Item) → Accepts (cluster_of s) r i c entry place term after
     → Path (cluster_of s) (accepted (cluster_of s) r i c place term after) t → slice_get (list_at t.members member) (place - 1) ≡ Some item
     → item.entry ≡ entry
@@ -254,7 +254,7 @@ keeps_one s r t k i c entry place term after member item a p e =
     let same : item_of entry ≡ item = cc in
     sym (ap (λ (x : Item). x.entry) same)
 
-apart_one : (s : Setup) (r t : ListRun) (k : Kept r) (i j : ℕ) (c d : Client) (x y : Entry) (place term : ℕ) (after later : Lists)
+apart_one : (s : Setup) (r t : WorldRun) (k : Kept r) (i j : ℕ) (c d : Client) (x y : Entry) (place term : ℕ) (after later : Lists)
     → Accepts (cluster_of s) r i c x place term after → Path (cluster_of s) (accepted (cluster_of s) r i c place term after) t
     → Accepts (cluster_of s) t j d y place term later → ⊥
 apart_one s r t k i j c d x y place term after later a p b =
@@ -271,7 +271,7 @@ apart_one s r t k i j c d x y place term after later a p b =
       length-append r.history (item_of x ∷ []),
     )
 
-behind_one : (s : Setup) (r : ListRun) (i : ℕ) (c : Client) (entry : Entry) (place term : ℕ) (after : Lists)
+behind_one : (s : Setup) (r : WorldRun) (i : ℕ) (c : Client) (entry : Entry) (place term : ℕ) (after : Lists)
     → Accepts (cluster_of s) r i c entry place term after → length (list_at r.members c.member) < place
 behind_one s r i c entry place term after a =
     let is : IsPlaced r.members c.member entry place term after = placed_is s r.members c.member entry place term after a.accepts in
@@ -306,5 +306,5 @@ list_keeps_four s h = record {
   leads = λ lists member entry e. leads_or s lists member entry e;
   refuses = λ lists member entry e. refuses_or s lists member entry e;
 } where
-  all_begin_from : (r t : ListRun) → Kept r → Onward r t → AllByRecursion (λ l. Begins l t.history) r.members
+  all_begin_from : (r t : WorldRun) → Kept r → Onward r t → AllByRecursion (λ l. Begins l t.history) r.members
   all_begin_from r t k o = all_begin_more r.history t.history r.members o.further.grows (all_begin r k)

@@ -27,7 +27,7 @@ use Rattle.ncc_world.specs.declared.clients.Clients.{Clients}
 use Rattle.ncc_world.specs.declared.running.Running.{Running}
 use Rattle.ncc_world.specs.Setting.{Lists, cluster_of, list_at, item_of, appended}
 use Rattle.ncc_world.specs.Earlier.{AllRemember}
-use Rattle.ncc_world.specs.Happening.{ListRun}
+use Rattle.ncc_world.specs.Happening.{WorldRun}
 use Rattle.ncc_world.specs.World.{KeptMembers, KeptClients, KeptRun, AreMembers, AreServed, RunsAs, IsClient}
 use Rattle.ncc_world.specs.Parts.{IsProposed, members_in, clients_in, run_in}
 use Rattle.ncc_world.proofs.Begun.{begins_more, grows_set}
@@ -36,13 +36,13 @@ use Rattle.ncc_world.proofs.Turning.{counted, reply_some}
 use Rattle.ncc_world.proofs.Fitting.{fits_here}
 
 -- the connection at an index, by what is kept of it
-pub record Sits (s : Setup) (r : ListRun) (index : ℕ) (v : Served) : Type 0 where
+pub record Sits (s : Setup) (r : WorldRun) (index : ℕ) (v : Served) : Type 0 where
   pub client : Client
   pub seen : ConnSeen
   pub there : slice_get r.clients index ≡ Some client
   pub is : IsClient s v seen client
 
-pub sits : (s : Setup) (w : KeptRun) (r : ListRun) (index : ℕ) (v : Served) → RunsAs s w r → index < length w.clients.table
+pub sits : (s : Setup) (w : KeptRun) (r : WorldRun) (index : ℕ) (v : Served) → RunsAs s w r → index < length w.clients.table
     → slice_get w.clients.table index ≡ Some v → Sits s r index v
 sits s w r index v k h e =
     let n = counted s w r k in
@@ -58,17 +58,17 @@ sits s w r index v k h e =
 
 -- ---- the members are the same, or one entry longer
 
-pub record Refused (s : Setup) (lists : Lists) (X Y : Proposed Lists) (m : KeptMembers) : Type 0 where
+pub record Refused (s : Setup) (lists : Lists) (X Y : Proposed Seats) (m : KeptMembers) : Type 0 where
   pub members : AreMembers s m lists
   pub becomes : X ≡ Y
 
-elsewhere_by : (s : Setup) (lists : Lists) (X : Proposed Lists) (m : KeptMembers) → IsProposed s lists X proposal.Elsewhere m
+elsewhere_by : (s : Setup) (lists : Lists) (X : Proposed Seats) (m : KeptMembers) → IsProposed s lists X proposal.Elsewhere m
     → Refused s lists X elsewhere m
 elsewhere_by s lists elsewhere m k = record { members = k.1; becomes = refl }
 elsewhere_by s lists (full n) m k = absurd (let z = k.0 in cc)
 elsewhere_by s lists (placed place term after) m k = absurd (let z = k.0 in cc)
 
-full_by : (s : Setup) (lists : Lists) (X : Proposed Lists) (m : KeptMembers) (entries : ℕ) → IsProposed s lists X (proposal.Full entries) m
+full_by : (s : Setup) (lists : Lists) (X : Proposed Seats) (m : KeptMembers) (entries : ℕ) → IsProposed s lists X (proposal.Full entries) m
     → Refused s lists X (full entries) m
 full_by s lists elsewhere m entries k = absurd (let z = k.0 in cc)
 full_by s lists (full n) m entries k = record {
@@ -77,23 +77,23 @@ full_by s lists (full n) m entries k = record {
 }
 full_by s lists (placed place term after) m entries k = absurd (let z = k.0 in cc)
 
-pub was_elsewhere : (s : Setup) (lists : Lists) (X : Proposed Lists) (m : KeptMembers) (p : Proposal) → IsProposed s lists X p m
+pub was_elsewhere : (s : Setup) (lists : Lists) (X : Proposed Seats) (m : KeptMembers) (p : Proposal) → IsProposed s lists X p m
     → p ≡ proposal.Elsewhere → Refused s lists X elsewhere m
 was_elsewhere s lists X m p k e = elsewhere_by s lists X m (subst (λ (q : Proposal). IsProposed s lists X q m) e k)
 
-pub was_full : (s : Setup) (lists : Lists) (X : Proposed Lists) (m : KeptMembers) (p : Proposal) (entries : ℕ) → IsProposed s lists X p m
+pub was_full : (s : Setup) (lists : Lists) (X : Proposed Seats) (m : KeptMembers) (p : Proposal) (entries : ℕ) → IsProposed s lists X p m
     → p ≡ proposal.Full entries → Refused s lists X (full entries) m
 was_full s lists X m p entries k e = full_by s lists X m entries (subst (λ (q : Proposal). IsProposed s lists X q m) e k)
 
 -- nothing changed but the members, and these stand for the same lists
-pub kept_by : (s : Setup) (r : ListRun) (old new : Running) → RunsAs s (run_in old) r → AreMembers s (members_in new.members) r.members
+pub kept_by : (s : Setup) (r : WorldRun) (old new : Running) → RunsAs s (run_in old) r → AreMembers s (members_in new.members) r.members
     → new.clock ≡ old.clock → new.clients ≡ old.clients → new.told ≡ old.told → new.earlier.items ≡ old.earlier.items
     → RunsAs s (run_in new) r
 kept_by s r old new k m clock clients told earlier = record {
   now = clock ∙ k.now;
   history = sym m.first ∙ k.members.first ∙ k.history;
   members = m;
-  clients = subst (λ (x : Clients). AreServed s (length r.members) (clients_in x) r.clients) (sym clients) k.clients;
+  clients = subst (λ (x : Clients). AreServed s (length (lists_of r.members)) (clients_in x) r.clients) (sym clients) k.clients;
   told = told ∙ k.told;
   earlier = subst (λ (es : List (Option Earlier)). AllRemember s es r) (sym earlier) k.earlier;
 }
@@ -104,26 +104,26 @@ pub writes_by : (list : List Item) (now deadline : ℕ) (b : Bool) (placing : Op
 writes_by list now deadline true placing e = refl
 writes_by list now deadline false placing e = absurd (cc)
 
-refusal_fits : (s : Setup) (r : ListRun) (c : Client) (entry : Entry) → answers (cluster_of s) r c (leave_of entry) ≡ proposes
+refusal_fits : (s : Setup) (r : WorldRun) (c : Client) (entry : Entry) → answers (cluster_of s) r c (leave_of entry) ≡ proposes
     → IsTrue (fits (leave_of entry) Elsewhere) × ((entries : ℕ) → IsTrue (fits (leave_of entry) (Full entries)))
 refusal_fits s r c e.Noop h = absurd (cc)
 refusal_fits s r c (e.Tx steps told) h =
-    let w = writes_by (get_or r.members (c.member - 1) []) r.now (deadline_of (cluster_of s) c) (some_writes (map call_of steps)) c.placing h in
+    let w = writes_by (get_or (lists_of r.members) (c.member - 1) []) r.now (deadline_of (cluster_of s) c) (some_writes (map call_of steps)) c.placing h in
     (w, λ entries. w)
 
-pub elsewhere_fits : (s : Setup) (r : ListRun) (v : Served) (seen : ConnSeen) (c : Client) (entry : Entry) → IsClient s v seen c
+pub elsewhere_fits : (s : Setup) (r : WorldRun) (v : Served) (seen : ConnSeen) (c : Client) (entry : Entry) → IsClient s v seen c
     → question_of (cluster_of s) c ≡ Some (leave_of entry) → reply (cluster_of s) r c ≡ proposes → IsTrue (fits_at (asked v.conn) Elsewhere)
 elsewhere_fits s r v seen c entry k e h =
     fits_here s v seen c (leave_of entry) Elsewhere k e (refusal_fits s r c entry (reply_some s r c (leave_of entry) e ∙ h)).0
 
-pub full_fits : (s : Setup) (r : ListRun) (v : Served) (seen : ConnSeen) (c : Client) (entry : Entry) (entries : ℕ) → IsClient s v seen c
+pub full_fits : (s : Setup) (r : WorldRun) (v : Served) (seen : ConnSeen) (c : Client) (entry : Entry) (entries : ℕ) → IsClient s v seen c
     → question_of (cluster_of s) c ≡ Some (leave_of entry) → reply (cluster_of s) r c ≡ proposes → IsTrue (fits_at (asked v.conn) (Full entries))
 full_fits s r v seen c entry entries k e h =
     fits_here s v seen c (leave_of entry) (Full entries) k e ((refusal_fits s r c entry (reply_some s r c (leave_of entry) e ∙ h)).1 entries)
 
 -- ---- an entry that was placed
 
-pub record Accepted (s : Setup) (lists : Lists) (X : Proposed Lists) (p : ProposedAt) (m : KeptMembers) : Type 0 where
+pub record Accepted (s : Setup) (lists : Lists) (X : Proposed Seats) (p : ProposedAt) (m : KeptMembers) : Type 0 where
   pub after : Lists
   pub becomes : X ≡ placed p.place p.term after
   pub members : AreMembers s m after
@@ -157,7 +157,7 @@ was_placed s lists member entry m p place k e =
     placed_by s lists entry place m (member == 1) (nat_le s.limit (length (list_at lists 1)))
     (subst (λ (q : Proposal). IsProposed s lists ((cluster_of s).propose lists member entry) q m) e k)
 
-pub accepted_as : (s : Setup) (r : ListRun) (i : ℕ) (d : Client) (place term : ℕ) (after : Lists) (now : ℕ) (m : KeptMembers) (k : KeptClients)
+pub accepted_as : (s : Setup) (r : WorldRun) (i : ℕ) (d : Client) (place term : ℕ) (after : Lists) (now : ℕ) (m : KeptMembers) (k : KeptClients)
     (told : List Told) (es : List (Option Earlier)) → now ≡ r.now → m.items ≡ longest r.history after → AreMembers s m after
     → AreServed s (length after) k (slice_set r.clients i (with_placing r.now d place term)) → told ≡ r.told
     → AllRemember s es (accepted (cluster_of s) r i d place term after)

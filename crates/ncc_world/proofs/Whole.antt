@@ -7,7 +7,7 @@ use Rattle.ncc_clients.specs.Reads.{SessionsReadTheirWrites}
 use Rattle.ncc_world.specs.declared.setup.Setup.{Setup}
 use Rattle.ncc_world.specs.declared.event.Event.{Event}
 use Rattle.ncc_world.specs.Setting.{IsSetup, cluster_of, nobody}
-use Rattle.ncc_world.specs.Happening.{ListRun, start_of, RunsOn}
+use Rattle.ncc_world.specs.Happening.{WorldRun, start_of, RunsOn}
 use Rattle.ncc_world.specs.Headline.{AllMayHappen, EveryRunKeeps, OneRun}
 use Rattle.ncc_world.proofs.Listed.{list_keeps_four}
 use Rattle.ncc_world.proofs.Settling.{SameSteps}
@@ -21,14 +21,14 @@ pub record Clients (s : Setup) : Type 0 where
   pub turns_are_small : TurnsAreSmall (cluster_of s)
   pub one_way : OneWay (cluster_of s)
   pub same_steps : SameSteps
-  pub sessions_read : IsSetup s → (es : List (ℕ × Event)) (end : ListRun) → AllMayHappen s es → RunsOn s es (start_of s) end
+  pub sessions_read : IsSetup s → (es : List (ℕ × Event)) (end : WorldRun) → AllMayHappen s es → RunsOn s es (start_of s) end
       → SessionsReadTheirWrites end
 
 ways_of : (s : Setup) → Clients s → Ways s
 ways_of s c = record { small = c.turns_are_small; one_way = c.one_way; same_steps = c.same_steps }
 
 -- after each event nobody can be answered
-rests : (s : Setup) (es : List (ℕ × Event)) (r t : ListRun) → AtRest (cluster_of s) r → RunsOn s es r t → AtRest (cluster_of s) t
+rests : (s : Setup) (es : List (ℕ × Event)) (r t : WorldRun) → AtRest (cluster_of s) r → RunsOn s es r t → AtRest (cluster_of s) t
 rests s [] r t a h = subst (λ x. AtRest (cluster_of s) x) h a
 rests s (e ∷ es) r t a h = rests s es h.0 t h.1.settles.rests h.2
 

@@ -28,8 +28,8 @@ returns-in-Run c = record {
       (f (list_at lists c.args.member) (c.shelf-shelf.ensures.stands c.args.setup.now lists k))) c.rows.ensures.left;
   exact = IfOk-weaker c.rows.result _ _ (λ a f r d k asks.
       let none : List Item = [] in
-      f c.args.setup.now r.members (get_or r.members (c.args.member - 1) none) (c.shelf-shelf.ensures.stands c.args.setup.now r.members k)
-      ∙ ap (λ m. runs ((cluster_of c.args.setup.now).leads r.members m) (get_or r.members (m - 1) none) (map call_of c.in-Run.steps)) asks.member_is
+      f c.args.setup.now r.members (get_or (lists_of r.members) (c.args.member - 1) none) (c.shelf-shelf.ensures.stands c.args.setup.now r.members k)
+      ∙ ap (λ m. runs ((cluster_of c.args.setup.now).leads r.members m) (get_or (lists_of r.members) (m - 1) none) (map call_of c.in-Run.steps)) asks.member_is
       ∙ ap (λ (q : Ask). answers (cluster_of c.args.setup.now) r d (question_of q)) (sym c.in-Run.is)) c.rows.ensures.exact;
 }
 

@@ -36,9 +36,9 @@ returns c = record {
         clients = subst (λ n. AreServed s n (clients_in c.args.self.now.clients) r.clients) (sym (length-set r.members _ _)) k.clients;
         told = k.told;
         earlier = all_grown s c.args.self.now.earlier.items r lists k.earlier
-            (λ m. grows_set r.members (c.args.member - 1) (extended (list_at r.members c.args.member) (list_at r.members 1) c.args.count)
-            (begins_more (list_at r.members c.args.member)
-            (take c.args.count (drop (length (list_at r.members c.args.member)) (list_at r.members 1)))) (m - 1));
+            (λ m. grows_set r.members (c.args.member - 1) (extended (list_at (lists_of r.members) c.args.member) (list_at (lists_of r.members) 1) c.args.count)
+            (begins_more (list_at (lists_of r.members) c.args.member)
+            (take c.args.count (drop (length (list_at (lists_of r.members) c.args.member)) (list_at (lists_of r.members) 1)))) (m - 1));
       };
   drivers = refl;
 }

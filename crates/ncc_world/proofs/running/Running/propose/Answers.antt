@@ -101,7 +101,7 @@ returns-in_ok-tell-in-Elsewhere c = record {
       let mid = kept_by s r c.args.self.now c.offer.new.self k q.members o.clock o.clients o.told o.earlier in (
         proposed (cluster_of s) c.args.line r c.args.index d ((cluster_of s).propose r.members d.member o.entry),
         (o.entry, o.entry_is, refl),
-        subst (λ (x : Proposed Lists). RunsAs s (run_in c.tell.new.self) (proposed (cluster_of s) c.args.line r c.args.index d x)) (sym q.becomes)
+        subst (λ (x : Proposed Seats). RunsAs s (run_in c.tell.new.self) (proposed (cluster_of s) c.args.line r c.args.index d x)) (sym q.becomes)
             (c.in_ok-tell-in-Elsewhere.ensures.ok r d mid there),
       );
   lowers =
@@ -123,7 +123,7 @@ returns-in_ok-tell-in-Full c = record {
       let mid = kept_by s r c.args.self.now c.offer.new.self k q.members o.clock o.clients o.told o.earlier in (
         proposed (cluster_of s) c.args.line r c.args.index d ((cluster_of s).propose r.members d.member o.entry),
         (o.entry, o.entry_is, refl),
-        subst (λ (x : Proposed Lists). RunsAs s (run_in c.tell-in-Full.new.self) (proposed (cluster_of s) c.args.line r c.args.index d x)) (sym q.becomes)
+        subst (λ (x : Proposed Seats). RunsAs s (run_in c.tell-in-Full.new.self) (proposed (cluster_of s) c.args.line r c.args.index d x)) (sym q.becomes)
             (c.in_ok-tell-in-Full.ensures.ok r d mid there),
       );
   lowers =
@@ -162,9 +162,9 @@ change-requires-clause-served c =
     let o = c.in_ok-offer.ensures.ok r d.0 k d.1 in
     record {
       setup = s;
-      count = length r.members;
+      count = length (lists_of r.members);
       clients = r.clients;
-      are = subst (λ (x : Clients). AreServed s (length r.members) (clients_in x) r.clients) (sym o.clients) k.clients;
+      are = subst (λ (x : Clients). AreServed s (length (lists_of r.members)) (clients_in x) r.clients) (sym o.clients) k.clients;
     }
 
 pub change-requires-clause-may : goal.change-requires-clause-may
@@ -185,9 +185,9 @@ returns-in_ok-change-in-Placed c = record {
       let p = c.in-Placed.place in
       let o = c.in_ok-offer.ensures.ok r d k there in
       let q = was_placed s r.members d.member o.entry _ c.in_ok-offer.field-0 p o.proposed_so c.in-Placed.is in
-      let old = subst (λ (x : Clients). AreServed s (length r.members) (clients_in x) r.clients) (sym o.clients) k.clients in
-      let one = c.in_ok-change-in-Placed.ensures.ok s (length r.members) r.clients d old there refl in
-      let two = subst (λ n. AreServed s (length r.members) (clients_in c.change.new.self) (slice_set r.clients i (with_placing n d p.place p.term)))
+      let old = subst (λ (x : Clients). AreServed s (length (lists_of r.members)) (clients_in x) r.clients) (sym o.clients) k.clients in
+      let one = c.in_ok-change-in-Placed.ensures.ok s (length (lists_of r.members)) r.clients d old there refl in
+      let two = subst (λ n. AreServed s (length (lists_of r.members)) (clients_in c.change.new.self) (slice_set r.clients i (with_placing n d p.place p.term)))
       (o.clock ∙ k.now) one in
       let three = subst (λ n. AreServed s n (clients_in c.change.new.self) (slice_set r.clients i (with_placing r.now d p.place p.term)))
       (sym q.count) two in
@@ -199,7 +199,7 @@ returns-in_ok-change-in-Placed c = record {
       (all_accepted s c.args.self.now.earlier.items r i d p.place p.term q.after k.earlier there q.grows)) in (
         proposed (cluster_of s) c.args.line r i d ((cluster_of s).propose r.members d.member o.entry),
         (o.entry, o.entry_is, refl),
-        subst (λ (x : Proposed Lists). RunsAs s (record {
+        subst (λ (x : Proposed Seats). RunsAs s (record {
           now = c.offer.new.self.clock;
           members = members_in c.offer.new.self.members;
           clients = clients_in c.change.new.self;

@@ -31,8 +31,8 @@ answered-requires c =
         r.members,
         k.members,
         λ calls e.
-            subst (λ m. IsFrom (list_at r.members m) calls o) (sym h.is.kept.member)
-            (from_kept c.args.setup.now (list_at r.members h.client.member) h.client o calls
+            subst (λ m. IsFrom (list_at (lists_of r.members) m) calls o) (sym h.is.kept.member)
+            (from_kept c.args.setup.now (list_at (lists_of r.members) h.client.member) h.client o calls
             (c.requires.kept.2 h.client h.there)
             (asks_as_served c.args.setup.now c.served-served.result.now c.shown.result.now h.client (asks_of c.in-Some.ask.now) h.is
             c.in-Some.ensures.some ∙ ap (λ (q : Question). Some q) e)),
@@ -57,7 +57,7 @@ returns-in-Some c = record {
       c.served-served.ensures.is c.shown.ensures.shown in
       left_at s r d a (asks_of c.in-Some.ask.now)
       (asks_as_served s c.served-served.result.now c.shown.result.now d (asks_of c.in-Some.ask.now) client c.in-Some.ensures.some)
-      (subst (λ m. LeftIn (list_at r.members m) (asks_of c.in-Some.ask.now) a) client.kept.member (f r.members k.members))) c.answered.ensures.left;
+      (subst (λ m. LeftIn (list_at (lists_of r.members) m) (asks_of c.in-Some.ask.now) a) client.kept.member (f r.members k.members))) c.answered.ensures.left;
   exact = IfOk-weaker c.answered.result _ _ (λ a f r d k there.
       let client = client_is c.args.setup.now (run_in c.args.self.now) r c.args.index c.served-served.result.now c.shown.result.now d k there
       c.served-served.ensures.is c.shown.ensures.shown in

@@ -33,5 +33,5 @@ returns-clause-kept c = λ r k d there.
     omega (arith, k.earlier.count, (counted s (run_in c.args.self.now) r k).table, c.requires.there) in
     let o : Option Earlier = c.index_mut.result.now in
     let at : slice_get es c.args.index ≡ Some o = slice_get_read es (length es) c.args.index o refl within c.index_mut.ensures.value in
-    subst (λ (x : Option Earlier). Remembers s (list_at r.members d.member) d x) (sym c.take.ensures.value)
+    subst (λ (x : Option Earlier). Remembers s (list_at (lists_of r.members) d.member) d x) (sym c.take.ensures.value)
     (k.earlier.each c.args.index d o there at)

@@ -37,9 +37,9 @@ returns c = record {
         now = k.now;
         history = k.history;
         members = k.members;
-        clients = subst (λ n. AreServed s (length r.members) (clients_in c.change.new.self)
+        clients = subst (λ n. AreServed s (length (lists_of r.members)) (clients_in c.change.new.self)
             (slice_set r.clients c.args.index (with_fact n d c.args.fact))) k.now
-            (c.in_ok-change.ensures.ok s (length r.members) r.clients d k.clients there refl);
+            (c.in_ok-change.ensures.ok s (length (lists_of r.members)) r.clients d k.clients there refl);
         told = c.in_ok-push.ensures.ok
             ∙ ap (λ (x : Fact). c.args.self.now.told ++ (record { line = c.args.line; conn = c.shown.result.now.conn; fact = x } ∷ []))
             c.in_ok-copy.ensures.equal

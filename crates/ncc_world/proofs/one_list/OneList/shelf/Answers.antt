@@ -1,5 +1,5 @@
 use Rattle.ncc_world.proofs.Listing.{shelf_at}
-use Rattle.ncc_world.proofs.members.Members.shelf.Goals as goal
+use Rattle.ncc_world.proofs.one_list.OneList.shelf.Goals as goal
 
 pub returns : goal.returns
 returns c = record {

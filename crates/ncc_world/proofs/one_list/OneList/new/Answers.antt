@@ -2,10 +2,10 @@ use Rattle.std.proofs.Common.{◌≡◌, ◌+◌, ◌++◌, ◌∷◌, [], suc, 
 use Rattle.ncc_tx.specs.declared.entry.Item.{Item}
 use Rattle.ncc_apply.specs.Shelf.{Shown as Shelved}
 use Rattle.ncc_world.specs.declared.seen.MemberSeen.{MemberSeen}
-use Rattle.ncc_world.specs.World.{AreMembers}
-use Rattle.ncc_world.specs.Parts.{members_in}
+use Rattle.ncc_world.specs.World.{AreOneList}
+use Rattle.ncc_world.specs.Parts.{list_in}
 use Rattle.ncc_world.proofs.Firstly.{AreFirst, empties, first_none, first_more, first_members}
-use Rattle.ncc_world.proofs.members.Members.new.Goals as goal
+use Rattle.ncc_world.proofs.one_list.OneList.new.Goals as goal
 
 pub loop-index-init : goal.loop-index-init
 loop-index-init c =
@@ -31,7 +31,7 @@ returns c =
     let n = c.args.setup.now.cores + c.args.setup.now.replicas in
     let whole : c.loop-index.index ≡ n = omega (arith, c.loop-index-test.false, c.loop-index.auto.index-end) in
     record {
-      new = subst (λ (k : ℕ). AreMembers c.args.setup.now (members_in c.loop-index.members) (empties k)) whole
+      new = subst (λ (k : ℕ). AreOneList c.args.setup.now (list_in c.loop-index.members) (empties k)) whole
           (first_members c.args.setup.now c.loop-index.index c.loop-index.members.items c.loop-index.members.shelves.items
           c.loop-index.members.seen (omega (arith, whole, c.requires.allowed.cores.0)) c.loop-index.invariant);
     }

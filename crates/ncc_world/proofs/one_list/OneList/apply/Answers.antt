@@ -3,11 +3,11 @@ use Rattle.std.specs.Prelude.{slice_set}
 use Rattle.ncc_apply.specs.Shelf.{Stands}
 use Rattle.ncc_tx.specs.declared.entry.Item.{Item}
 use Rattle.ncc_world.specs.declared.seen.MemberSeen.{MemberSeen}
-use Rattle.ncc_world.specs.World.{AreMembers}
+use Rattle.ncc_world.specs.World.{AreOneList}
 use Rattle.ncc_world.specs.Setting.{lagging}
 use Rattle.ncc_world.proofs.Listing.{shelf_count, seen_count, shelf_short}
 use Rattle.ncc_world.proofs.Moving.{kept, lagged}
-use Rattle.ncc_world.proofs.members.Members.apply.Goals as goal
+use Rattle.ncc_world.proofs.one_list.OneList.apply.Goals as goal
 
 pub index_mut-requires-2 : goal.index_mut-requires-2
 index_mut-requires-2 c =
@@ -38,7 +38,7 @@ returns-clause-ok c = λ s lists k far.
     let shown : c.from_vec.result ≡ slice_set seen i n =
     c.from_vec.ensures.same ∙ ap (λ (l : List MemberSeen). slice_set l i n) c.taken-seen.ensures.same in
     let same = c.as_slice.ensures.same ∙ c.entries.ensures.same in
-    subst (λ (l : List MemberSeen). AreMembers s (kept items (slice_set shelves i y) l) (lagging lists c.args.member c.args.count)) (sym shown)
+    subst (λ (l : List MemberSeen). AreOneList s (kept items (slice_set shelves i y) l) (lagging lists c.args.member c.args.count)) (sym shown)
     (lagged s items shelves seen lists i c.args.member c.args.count from goal x y m n k far refl
     (omega (arith, c.requires.there)) c.index_mut.ensures.value
     (c.index_mut-2.ensures.value ∙ ap (λ (l : List MemberSeen). get_or l i m) c.taken-seen.ensures.same)
