@@ -1,6 +1,7 @@
 -- What happens to members and connections leaves a run's clock and its sessions as they are, and how many members there are.
 use Rattle.std.proofs.Common.{◌≡◌, ℕ, ◌+◌, ◌-◌, ◌≤◌, Bool, true, false, List, [], ◌∷◌, ◌++◌, length, Option, Some, None, refl, ap, sym, ◌∙◌, subst}
-use Rattle.std.specs.Prelude.{slice_get, nat_le, ◌==◌, if◌then◌else◌}
+use Rattle.std.proofs.Common.{arith, map, length-append, length-map}
+use Rattle.std.specs.Prelude.{slice_get, slice_set, nat_le, ◌==◌, if◌then◌else◌}
 use Rattle.std.proofs.lemmas.List.{length-set}
 use Rattle.std.proofs.lemmas.Option.{slice_get_past}
 use Rattle.ncc_tx.specs.declared.entry.Entry.{Entry}
@@ -15,9 +16,13 @@ use Rattle.ncc_world.specs.declared.drivers.Drivers.{Drivers}
 use Rattle.ncc_world.specs.declared.running.Running.{Running}
 use Rattle.ncc_bolt.specs.declared.message.Request.{Request}
 use Rattle.ncc_world.specs.Requests.{client_bytes}
-use Rattle.ncc_world.specs.Setting.{Lists, cluster_of, list_at, appended, extended, item_of, lagging}
+use Rattle.ncc_raft.specs.Member.{Member, Event, Propose, Outcome}
+use Rattle.ncc_raft.specs.Appending.{applied}
+use Rattle.ncc_safety.specs.Fleet.{Shape, Fleet, Elsewhere, Full, Placed, applied_lists, core_at, outcome_at, steps_to, leads, is_full}
+use Rattle.ncc_world.specs.Setting.{Lists, Seats, over_list, over_raft, lists_of, cluster_of, shape_of, list_at, appended, answered}
+use Rattle.ncc_world.specs.Setting.{extended, item_of}
 use Rattle.ncc_world.specs.Setting as setting
-use Rattle.ncc_world.specs.Happening.{WorldRun, asks}
+use Rattle.ncc_world.specs.Happening.{WorldRun, asks, lagged}
 use Rattle.ncc_world.specs.Drivers.{AreAtWork}
 use Rattle.ncc_world.specs.World.{RunsAs}
 use Rattle.ncc_world.specs.Parts.{RunsMid, drivers_in, run_in}
@@ -72,29 +77,71 @@ asks_aside s r member request =
 
 -- ---- members
 
-pub lagging_aside : (s : Setup) (r : WorldRun) (member count : ℕ) → Aside r (moved (cluster_of s) r (lagging r.members member count))
-lagging_aside s r member count = record {
-  now = refl;
-  driving = refl;
-  members = length-set r.members (member - 1) (extended (list_at (lists_of r.members) member) (list_at (lists_of r.members) 1) count);
-}
+lagged_count : (seats : Seats) (member count : ℕ) → length (lists_of (lagged seats member count)) ≡ length (lists_of seats)
+lagged_count (over_list lists) member count =
+    length-set lists (member - 1) (extended (list_at lists member) (list_at lists 1) count)
+lagged_count (over_raft fleet) member count = refl
+
+pub lagging_aside : (s : Setup) (r : WorldRun) (member count : ℕ) → Aside r (moved (cluster_of s) r (lagged r.members member count))
+lagging_aside s r member count = record { now = refl; driving = refl; members = lagged_count r.members member count }
 
 -- so many members stay
 abbrev pub KeepsCount : ℕ → Proposed Seats → Type 0
 KeepsCount count elsewhere = Unit {0}
 KeepsCount count (full entries) = Unit {0}
-KeepsCount count (placed place term after) = length after ≡ count
+KeepsCount count (placed place term after) = length (lists_of after) ≡ count
 
-propose_keeps : (s : Setup) (lists : Lists) (member : ℕ) (entry : Entry) → KeepsCount (length lists) ((cluster_of s).propose lists member entry)
-propose_keeps s lists member entry = by_member (member == 1) where
-  by_full : (b : Bool)
-      → KeepsCount (length lists) (if b then full (length (list_at lists 1)) else placed (length (list_at lists 1) + 1) 1 (appended lists entry))
+list_keeps : (s : Setup) (lists : Lists) (member : ℕ) (entry : Entry)
+    → KeepsCount (length lists) ((cluster_of s).propose (over_list lists) member entry)
+list_keeps s lists member entry = by_member (member == 1) where
+  by_full : (b : Bool) → KeepsCount (length lists)
+      (if b then full (length (list_at lists 1)) else placed (length (list_at lists 1) + 1) 1 (over_list (appended lists entry)))
   by_full true = tt
   by_full false = length-set lists 0 (list_at lists 1 ++ (item_of entry ∷ []))
 
   by_member : (b : Bool) → KeepsCount (length lists) (if b then setting.proposes s.limit lists entry else elsewhere)
   by_member true = by_full (nat_le s.limit (length (list_at lists 1)))
   by_member false = tt
+
+-- a core that takes a step stays one of as many
+steps_count : (shape : Shape) (f : Fleet) (i : ℕ) (event : Event) → length (applied_lists (steps_to shape f i event)) ≡ length (applied_lists f)
+steps_count shape f i event =
+    let m : Member = (outcome_at shape f i event).member in
+    omega (
+      arith,
+      length-append (map applied (slice_set f.cores (i - 1) m)) f.lists,
+      length-append (map applied f.cores) f.lists,
+      length-map (slice_set f.cores (i - 1) m) applied,
+      length-map f.cores applied,
+      length-set f.cores (i - 1) m,
+    )
+
+raft_keeps : (s : Setup) (f : Fleet) (member : ℕ) (entry : Entry)
+    → KeepsCount (length (applied_lists f)) ((cluster_of s).propose (over_raft f) member entry)
+raft_keeps s f member entry = by_leader (leads (shape_of s) f member) where
+  o : Outcome
+  o = outcome_at (shape_of s) f member (Propose entry)
+
+  by_full : (b : Bool) → KeepsCount (length (applied_lists f)) (answered
+      (if b then Full (length (core_at (shape_of s) f member).log)
+      else Placed (length o.member.log) o.member.term (steps_to (shape_of s) f member (Propose entry))))
+  by_full true = tt
+  by_full false = steps_count (shape_of s) f member (Propose entry)
+
+  by_leader : (b : Bool) → KeepsCount (length (applied_lists f)) (answered
+      (if b
+      then (
+      if is_full (shape_of s) f member then Full (length (core_at (shape_of s) f member).log)
+      else Placed (length o.member.log) o.member.term (steps_to (shape_of s) f member (Propose entry))
+      )
+      else Elsewhere))
+  by_leader true = by_full (is_full (shape_of s) f member)
+  by_leader false = tt
+
+propose_keeps : (s : Setup) (seats : Seats) (member : ℕ) (entry : Entry)
+    → KeepsCount (length (lists_of seats)) ((cluster_of s).propose seats member entry)
+propose_keeps s (over_list lists) member entry = list_keeps s lists member entry
+propose_keeps s (over_raft fleet) member entry = raft_keeps s fleet member entry
 
 proposed_aside : (s : Setup) (line : ℕ) (r : WorldRun) (i : ℕ) (c : Client) (p : Proposed Seats) → KeepsCount (length (lists_of r.members)) p
     → Aside r (proposed (cluster_of s) line r i c p)

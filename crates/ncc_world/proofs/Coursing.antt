@@ -45,11 +45,11 @@ use Rattle.ncc_world.specs.declared.event.Event.TheVariants.{Time, Put, Get, App
 use Rattle.ncc_world.specs.declared.event.Job.{Job}
 use Rattle.ncc_world.specs.declared.event.Job.TheVariants.{Add}
 use Rattle.ncc_world.specs.declared.event.Job.TheVariants as job
-use Rattle.ncc_world.specs.declared.error.WorldError.TheVariants.{NoConn, NoSession, Busy}
-use Rattle.ncc_world.specs.Setting.{IsSetup, Lists, Applies, cluster_of, nobody, lagging}
+use Rattle.ncc_world.specs.declared.error.WorldError.TheVariants.{NoMember, NoConn, NoSession, Busy}
+use Rattle.ncc_world.specs.Setting.{IsSetup, cluster_of, MovesTo, Seats, seats_of}
 use Rattle.ncc_world.specs.Events.{MayHappen, MayBegin}
 use Rattle.ncc_world.specs.Requests.{client_bytes, put_request, get_request}
-use Rattle.ncc_world.specs.Happening.{WorldRun, start_of, unless, refusal, is_printed, is_linked, is_session, is_busy_at, config_of, meant, asks, own}
+use Rattle.ncc_world.specs.Happening.{WorldRun, start_of, unless, refusal, lagged, is_printed, is_linked, is_session, is_busy_at, config_of, meant, asks, own}
 use Rattle.ncc_world.specs.Happening.{ComesAsBytes, Steps, Happens, RunsOn}
 use Rattle.ncc_world.specs.Headline.{AllMayHappen}
 use Rattle.ncc_world.proofs.Settling.{path_through}
@@ -57,7 +57,7 @@ use Rattle.ncc_world.proofs.Sending.{word_fits}
 use Rattle.ncc_world.proofs.Keeping.{get_there}
 use Rattle.ncc_world.proofs.Listed.{list_keeps_four}
 use Rattle.ncc_world.proofs.Bounding.{has_numbers}
-use Rattle.ncc_world.proofs.Moments.{lags_at, not_refused}
+use Rattle.ncc_world.proofs.Moments.{lags_at, member_some, not_refused}
 
 -- ---- what sessions and works are made of has a spelling
 
@@ -187,10 +187,10 @@ module _ (known : Known) (says : DriverSays) (s : Setup) (setup : IsSetup s) whe
   abbrev C : Cluster Seats
   C = cluster_of s
 
-  four : Four C (nobody s)
+  four : Four C (seats_of s)
   four = list_keeps_four s setup
 
-  numbers : HasNumbers C (nobody s)
+  numbers : HasNumbers C (seats_of s)
   numbers = has_numbers s setup
 
   join : (r t u : WorldRun) → Course C r t → Course C t u → Course C r u
@@ -213,10 +213,10 @@ module _ (known : Known) (says : DriverSays) (s : Setup) (setup : IsSetup s) whe
   }
 
   deed_kept : (r t : WorldRun) → Deed C r t → Path C (start_of s) r → Kept C r → Kept C t
-  deed_kept r t (Plain _ _ h leaves) from k = small_kept C (nobody s) known four numbers r t h leaves from k
+  deed_kept r t (Plain _ _ h leaves) from k = small_kept C (seats_of s) known four numbers r t h leaves from k
   deed_kept r _ (Makes _ config fit) from k = makes_kept C says r config fit k
   deed_kept r _ (Begins line _ n d job here free fit) from k = begins_kept C says line n r d job k here free fit
-  deed_kept r _ (Lifts _ n lift splits) from k = lifts_kept C (nobody s) known four says n r lift from k splits
+  deed_kept r _ (Lifts _ n lift splits) from k = lifts_kept C (seats_of s) known four says n r lift from k splits
   deed_kept r _ (Falls line _ n front takes bytes) from k = falls_kept C says setup.id line n r front k takes bytes
   deed_kept r _ (Cuts line _ n) from k = cuts_kept C says line n r k
   deed_kept r _ (Wakes line _ n d here) from k = woken_kept C says line n r d k here
@@ -257,10 +257,10 @@ module _ (known : Known) (says : DriverSays) (s : Setup) (setup : IsSetup s) whe
       let h = k.around.held l has in
       omega (arith, same, h.some, below r.clients (l.conn - 1) h.c h.there)
 
-  asks_course : (r : WorldRun) (member : ℕ) (request : Request) → Kept C r → Course C r (asks s r member request)
-  asks_course r member request k =
+  asks_course : (r : WorldRun) (member : ℕ) (request : Request) → 1 ≤ member → Kept C r → Course C r (asks s r member request)
+  asks_course r member request some k =
       let t : WorldRun = opened r member false in
-      join r t (asks s r member request) (one r t (Plain r t (Opens r member false) tt))
+      join r t (asks s r member request) (one r t (Plain r t (Opens r member false some) tt))
       (feeds_course t (length r.clients) (client_bytes request) (new_is_free r member k))
 
   come : (r : WorldRun) (o : Option Driver) → AreBytes (down_at C r o) → ComeAsBytes C r o all_bytes
@@ -290,16 +290,16 @@ module _ (known : Known) (says : DriverSays) (s : Setup) (setup : IsSetup s) whe
       let le : r.now ≤ to = leb-true r.now to (not_refused (nat_le r.now to) _ e) in
       subst (λ x. Course C r x) (sym h) (And r u (wakes_all C line u) (Plain r u (Ticks r to le) tt) (wakes_are_courses C line u))
   own_course line (Put member key value bookmarks) r t k e may h =
-      subst (λ x. Course C r x) (sym h) (asks_course r member (put_request key value bookmarks) k)
+      subst (λ x. Course C r x) (sym h) (asks_course r member (put_request key value bookmarks) (member_some r member NoMember e) k)
   own_course line (Get member key bookmarks) r t k e may h =
-      subst (λ x. Course C r x) (sym h) (asks_course r member (get_request key bookmarks) k)
+      subst (λ x. Course C r x) (sym h) (asks_course r member (get_request key bookmarks) (member_some r member NoMember e) k)
   own_course line (Apply member count) r t k e may h =
-      let u : Lists = lagging r.members member count in
-      let a : Applies r.members u = lags_at r member count e in
+      let u : Seats = lagged r.members member count in
+      let a : MovesTo s r.members u = lags_at s r member count e in
       subst (λ x. Course C r x) (sym h) (one r (moved C r u) (Plain r (moved C r u) (Moves r u a) tt))
   own_course line (Open member) r t k e may h =
       let u : WorldRun = opened r member true in
-      subst (λ x. Course C r x) (sym h) (one r u (Plain r u (Opens r member true) tt))
+      subst (λ x. Course C r x) (sym h) (one r u (Plain r u (Opens r member true (member_some r member NoMember e)) tt))
   own_course line (Bytes conn bytes) r t k e may h =
       subst (λ x. Course C r x) (sym h) (feeds_course r (conn - 1) bytes (open_made r conn bytes e))
   own_course line (Close conn) r t k e may h = subst (λ x. Course C r x) (sym h) (closes_course r (conn - 1))
@@ -337,4 +337,4 @@ module _ (known : Known) (says : DriverSays) (s : Setup) (setup : IsSetup s) whe
   pub sessions_read_their_writes : (es : List (ℕ × Event)) (end : WorldRun) → AllMayHappen s es → RunsOn s es (start_of s) end
       → SessionsReadTheirWrites end
   sessions_read_their_writes es end may ran =
-      sessions_read C known says (nobody s) end four numbers (runs_course es (start_of s) end may (Nothing (start_of s)) ran)
+      sessions_read C known says (seats_of s) end four numbers (runs_course es (start_of s) end may (Nothing (start_of s)) ran)

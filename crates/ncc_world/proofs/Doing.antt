@@ -33,7 +33,6 @@ use Rattle.ncc_world.specs.Parts.{RunsAll, RunsMid, drivers_in, run_in, with_own
 pub driven : (s : Setup) (k : KeptRun) (r : WorldRun) (driving : Driving) → RunsAs s k r → RunsAs s k (record r { driving = driving })
 driven s k r driving h = record {
   now = h.now;
-  history = h.history;
   members = h.members;
   clients = h.clients;
   told = h.told;

@@ -7,7 +7,7 @@ use Rattle.ncc_clients.specs.Run.{Client, fed, closed_at}
 use Rattle.ncc_clients.specs.Drives.{feeds, feeds_one, closes_one}
 use Rattle.ncc_world.specs.declared.setup.Setup.{Setup}
 use Rattle.ncc_world.specs.declared.served.Served.{Served}
-use Rattle.ncc_world.specs.Setting.{cluster_of}
+use Rattle.ncc_world.specs.Setting.{cluster_of, lists_of}
 use Rattle.ncc_world.specs.Happening.{WorldRun, is_member}
 use Rattle.ncc_world.specs.World.{KeptRun, RunsAs}
 use Rattle.ncc_world.proofs.Proposing.{Sits, sits}

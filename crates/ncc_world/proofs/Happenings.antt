@@ -17,7 +17,7 @@ use Rattle.ncc_clients.specs.Moment.{Path, Here, IsOpen, Proposes}
 use Rattle.ncc_clients.specs.Laws.{IsAnswered, EachFactIsLawful}
 use Rattle.ncc_world.specs.declared.setup.Setup.{Setup}
 use Rattle.ncc_world.specs.declared.event.Event.{Event}
-use Rattle.ncc_world.specs.Setting.{Lists, cluster_of, nobody}
+use Rattle.ncc_world.specs.Setting.{cluster_of, nobody, Seats}
 use Rattle.ncc_world.specs.Events.{CountsSome}
 use Rattle.ncc_world.specs.Happening.{WorldRun, start_of, own, Passes, Happens, RunsOn, Within}
 use Rattle.ncc_world.specs.Headline.{IsLawful, FactsAreLawful}

@@ -14,11 +14,11 @@ use Rattle.ncc_clients.specs.Drives.{is_named, named_from, member_named, joined,
 use Rattle.ncc_world.specs.declared.setup.Setup.{Setup}
 use Rattle.ncc_world.specs.declared.running.Running.{Running}
 use Rattle.ncc_world.specs.declared.drivers.Drivers.{Drivers}
-use Rattle.ncc_world.specs.Setting.{IsSetup, cluster_of}
+use Rattle.ncc_world.specs.Setting.{IsSetup, lists_of, cluster_of}
 use Rattle.ncc_world.specs.Happening.{WorldRun}
 use Rattle.ncc_world.specs.Drivers.{AreAtWork, joined_as}
-use Rattle.ncc_world.specs.Parts.{RunsMid, drivers_in}
-use Rattle.ncc_world.proofs.Listing.{shelf_count}
+use Rattle.ncc_world.specs.Parts.{RunsMid, drivers_in, members_in}
+use Rattle.ncc_world.proofs.Seated.{shelves_count}
 use Rattle.ncc_world.proofs.Doing.{mid_with}
 
 addresses_many : (count first : ℕ) → length (addresses count first) ≡ count
@@ -52,10 +52,10 @@ named_few s at left pending w r allowed h =
 -- A member that is named is one of the members.
 pub named_there : (s : Setup) (at : ℕ) (left : List Action) (pending : List ℕ) (w : Running) (r : WorldRun) (address : List ℕ) (member : ℕ)
     → RunsMid s at left pending w r → Some member ≡ named_from 1 w.drivers.names address
-    → (0 < member) × (member ≤ length w.members.shelves.items)
+    → (0 < member) × (member ≤ length w.members.list.shelves.items)
 named_there s at left pending w r address member h e =
     let names : w.drivers.names ≡ addresses (s.cores + s.replicas) 1 = h.drives.names in
-    let count : length w.members.shelves.items ≡ length (lists_of r.members) = shelf_count w.members.items w.members.shelves.items r.members h.runs_as.members.shelves in
+    let count : length w.members.list.shelves.items ≡ length (lists_of r.members) = shelves_count s (members_in w.members) r.members r.history h.runs_as.members in
     let among = named_among 1 w.drivers.names address member (sym e) in
     let low : 1 ≤ member = among.low in
     let high : member < 1 + length w.drivers.names = among.high in

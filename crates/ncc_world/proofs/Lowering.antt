@@ -24,7 +24,7 @@ use Rattle.ncc_world.specs.declared.served.ProposedAt.{ProposedAt}
 use Rattle.ncc_world.specs.declared.served.Served.{Served}
 use Rattle.ncc_world.specs.declared.served.Change.{Change}
 use Rattle.ncc_world.specs.declared.served.Change.TheVariants as change
-use Rattle.ncc_world.specs.Setting.{cluster_of}
+use Rattle.ncc_world.specs.Setting.{cluster_of, lists_of}
 use Rattle.ncc_world.specs.Happening.{WorldRun}
 use Rattle.ncc_world.specs.World.{IsClient, placing_of}
 use Rattle.ncc_world.specs.Parts.{Lowers, left_at}

@@ -16,9 +16,9 @@ use Rattle.ncc_world.specs.declared.event.Event.{Event}
 use Rattle.ncc_world.specs.declared.event.Event.TheVariants.{Time, Put, Get, Apply, Open, Bytes, Close, Session, Work, Up, Down, Pump, Cut}
 use Rattle.ncc_world.specs.declared.error.WorldError.{WorldError}
 use Rattle.ncc_world.specs.declared.error.WorldError.TheVariants.{NoMember, WrongRole}
-use Rattle.ncc_world.specs.Setting.{Lists, Applies, cluster_of, lagging}
+use Rattle.ncc_world.specs.Setting.{Lists, Seats, over_list, over_raft, lists_of, MovesTo, cluster_of, lagging}
 use Rattle.ncc_world.specs.Requests.{client_bytes, put_request, get_request}
-use Rattle.ncc_world.specs.Happening.{WorldRun, start_of, unless, refusal, config_of, meant, asks, own, Steps, Passes, Happens, RunsOn, Within}
+use Rattle.ncc_world.specs.Happening.{WorldRun, start_of, unless, is_member, refuses_apply, refusal, lagged, config_of, meant, asks, own, Steps, Passes, Happens, RunsOn, Within}
 use Rattle.ncc_world.proofs.Settling.{SameSteps, path_through, turns_on}
 use Rattle.ncc_world.proofs.Silent.{Leads, stays, small, then_, feeds_leads, closes_leads, makes_leads, begins_leads, lifts_leads, falls_leads}
 use Rattle.ncc_world.proofs.Silent.{cuts_leads, wakes_leads}
@@ -26,42 +26,60 @@ use Rattle.ncc_world.proofs.Pumping.{pumps_path, pumping_path, one_pump, pumping
 
 -- ---- the own step of an event
 
-asks_leads : (s : Setup) (r : WorldRun) (member : ℕ) (request : Request) → Leads (cluster_of s) r (asks s r member request)
-asks_leads s r member request =
+asks_leads : (s : Setup) (r : WorldRun) (member : ℕ) (request : Request) → 1 ≤ member → Leads (cluster_of s) r (asks s r member request)
+asks_leads s r member request some =
     let C : Cluster Seats = cluster_of s in
     let t : WorldRun = opened r member false in
-    then_ C r t (asks s r member request) (small C r t (Opens r member false) refl)
+    then_ C r t (asks s r member request) (small C r t (Opens r member false some) refl)
     (feeds_leads C t (length r.clients) (client_bytes request))
 
 pub not_refused : (b : Bool) (error : WorldError) → unless b error ≡ None → b ≡ true
 not_refused true error e = refl
 not_refused false error e = absurd (cc)
 
--- who applies is a member that lags
-record Lags (r : WorldRun) (member : ℕ) : Type 0 where
-  follows : 1 < member
-  there : member ≤ length (lists_of r.members)
+-- a member that is there is numbered from 1
+pub member_some : (r : WorldRun) (member : ℕ) (error : WorldError) → unless (is_member r member) error ≡ None → 1 ≤ member
+member_some r member error e = go (nat_le 1 member) refl (not_refused (is_member r member) error e) where
+  go : (b : Bool) → nat_le 1 member ≡ b → (b && nat_le member (length (lists_of r.members))) ≡ true → 1 ≤ member
+  go true f h = leb-true 1 member f
+  go false f h = absurd (cc)
 
-lags : (r : WorldRun) (member count : ℕ) → refusal r (Apply member count) ≡ None → Lags r member
-lags r member count e = go (nat_le 1 member) (nat_le member (length (lists_of r.members))) refl refl e where
-  there : nat_le 1 member ≡ true → nat_le member (length (lists_of r.members)) ≡ true → (b : Bool) → (member == 1) ≡ b
-      → cond b (Some WrongRole) None ≡ None → Lags r member
+-- who applies is a member that lags
+record Lags (lists : Lists) (member : ℕ) : Type 0 where
+  follows : 1 < member
+  there : member ≤ length lists
+
+lags : (lists : Lists) (member : ℕ)
+    → refuses_apply (over_list lists) (nat_le 1 member && nat_le member (length lists)) member ≡ None → Lags lists member
+lags lists member e = go (nat_le 1 member) (nat_le member (length lists)) refl refl e where
+  there : nat_le 1 member ≡ true → nat_le member (length lists) ≡ true → (b : Bool) → (member == 1) ≡ b
+      → cond b (Some WrongRole) None ≡ None → Lags lists member
   there f g true h e = absurd (cc)
   there f g false h e =
       let low : 1 ≤ member = leb-true 1 member f in
-      let high : member ≤ length (lists_of r.members) = leb-true member (length (lists_of r.members)) g in
+      let high : member ≤ length lists = leb-true member (length lists) g in
       record { follows = omega (arith, low, eqb-false member 1 h); there = high }
 
-  go : (a b : Bool) → nat_le 1 member ≡ a → nat_le member (length (lists_of r.members)) ≡ b
-      → cond (a && b) (cond (member == 1) (Some WrongRole) None) (Some NoMember) ≡ None → Lags r member
+  go : (a b : Bool) → nat_le 1 member ≡ a → nat_le member (length lists) ≡ b
+      → cond (a && b) (cond (member == 1) (Some WrongRole) None) (Some NoMember) ≡ None → Lags lists member
   go false b f g e = absurd (cc)
   go true false f g e = absurd (cc)
   go true true f g e = there f g (member == 1) refl e
 
-pub lags_at : (r : WorldRun) (member count : ℕ) → refusal r (Apply member count) ≡ None → Applies r.members (lagging r.members member count)
-lags_at r member count e =
-    let l : Lags r member = lags r member count e in
-    record { member = member; count = count; follows = l.follows; there = l.there; same = refl }
+lags_among : (s : Setup) (seats : Seats) (member count : ℕ)
+    → refuses_apply seats (nat_le 1 member && nat_le member (length (lists_of seats))) member ≡ None
+    → MovesTo s seats (lagged seats member count)
+lags_among s (over_list lists) member count e =
+    let l : Lags lists member = lags lists member e in (
+      lagging lists member count,
+      record { member = member; count = count; follows = l.follows; there = l.there; same = refl },
+      refl,
+    )
+lags_among s (over_raft fleet) member count e = absurd (cc)
+
+pub lags_at : (s : Setup) (r : WorldRun) (member count : ℕ) → refusal r (Apply member count) ≡ None
+    → MovesTo s r.members (lagged r.members member count)
+lags_at s r member count e = lags_among s r.members member count e
 
 pub own_leads : (s : Setup) (line : ℕ) (event : Event) (r : WorldRun) → refusal r event ≡ None
     → Leads (cluster_of s) r (own s line event r)
@@ -71,12 +89,15 @@ own_leads s line (Time to) r e =
     let t : WorldRun = ticked r to in
     then_ C r t (wakes_all C line t) (small C r t (Ticks r to (leb-true r.now to (not_refused (nat_le r.now to) _ e))) refl)
     (wakes_leads C line t)
-own_leads s line (Put member key value bookmarks) r e = asks_leads s r member (put_request key value bookmarks)
-own_leads s line (Get member key bookmarks) r e = asks_leads s r member (get_request key bookmarks)
+own_leads s line (Put member key value bookmarks) r e =
+    asks_leads s r member (put_request key value bookmarks) (member_some r member NoMember e)
+own_leads s line (Get member key bookmarks) r e =
+    asks_leads s r member (get_request key bookmarks) (member_some r member NoMember e)
 own_leads s line (Apply member count) r e =
     small (cluster_of s) r (own s line (Apply member count) r)
-    (Moves r (lagging r.members member count) (lags_at r member count e)) refl
-own_leads s line (Open member) r e = small (cluster_of s) r (opened r member true) (Opens r member true) refl
+    (Moves r (lagged r.members member count) (lags_at s r member count e)) refl
+own_leads s line (Open member) r e =
+    small (cluster_of s) r (opened r member true) (Opens r member true (member_some r member NoMember e)) refl
 own_leads s line (Bytes conn bytes) r e = feeds_leads (cluster_of s) r (conn - 1) bytes
 own_leads s line (Close conn) r e = closes_leads (cluster_of s) r (conn - 1)
 own_leads s line (Session seed) r e = makes_leads (cluster_of s) r (config_of s seed)

@@ -8,9 +8,9 @@ use Rattle.ncc_clients.specs.Links.{lift_bytes}
 use Rattle.ncc_world.specs.declared.setup.Setup.{Setup}
 use Rattle.ncc_world.specs.declared.event.Event.{Event}
 use Rattle.ncc_world.specs.declared.event.Event.TheVariants.{Time, Put, Get, Apply, Open, Bytes, Close, Session, Work, Up, Down, Cut}
-use Rattle.ncc_world.specs.Setting.{cluster_of, lagging}
+use Rattle.ncc_world.specs.Setting.{cluster_of}
 use Rattle.ncc_world.specs.Requests.{put_request, get_request}
-use Rattle.ncc_world.specs.Happening.{WorldRun, own, asks, Steps, config_of, meant}
+use Rattle.ncc_world.specs.Happening.{WorldRun, own, asks, lagged, Steps, config_of, meant}
 use Rattle.ncc_world.specs.declared.running.Running.{Running}
 use Rattle.ncc_world.specs.declared.event.Job.{Job}
 use Rattle.ncc_world.specs.Parts.{RunsAll}
@@ -34,7 +34,7 @@ unfolding own
 own_get s line r member key bookmarks = refl
 
 pub own_apply : (s : Setup) (line : ℕ) (r : WorldRun) (member count : ℕ)
-    → moved (cluster_of s) r (lagging r.members member count) ≡ own s line (Apply member count) r
+    → moved (cluster_of s) r (lagged r.members member count) ≡ own s line (Apply member count) r
 unfolding own
 own_apply s line r member count = refl
 

@@ -21,15 +21,15 @@ use Rattle.ncc_world.specs.declared.seen.ConnSeen.{ConnSeen}
 use Rattle.ncc_world.specs.declared.earlier.Earlier.{Earlier}
 use Rattle.ncc_world.specs.declared.served.ProposedAt.{ProposedAt}
 use Rattle.ncc_world.specs.declared.served.Served.{Served}
-use Rattle.ncc_world.specs.declared.members.Proposal.{Proposal}
-use Rattle.ncc_world.specs.declared.members.Proposal.TheVariants as proposal
+use Rattle.ncc_world.specs.declared.proposal.Proposal.{Proposal}
+use Rattle.ncc_world.specs.declared.proposal.Proposal.TheVariants as proposal
 use Rattle.ncc_world.specs.declared.clients.Clients.{Clients}
 use Rattle.ncc_world.specs.declared.running.Running.{Running}
-use Rattle.ncc_world.specs.Setting.{Lists, cluster_of, list_at, item_of, appended}
+use Rattle.ncc_world.specs.Setting.{Seats, lists_of, cluster_of}
 use Rattle.ncc_world.specs.Earlier.{AllRemember}
 use Rattle.ncc_world.specs.Happening.{WorldRun}
 use Rattle.ncc_world.specs.World.{KeptMembers, KeptClients, KeptRun, AreMembers, AreServed, RunsAs, IsClient}
-use Rattle.ncc_world.specs.Parts.{IsProposed, members_in, clients_in, run_in}
+use Rattle.ncc_world.specs.Parts.{BecomeMembers, IsProposed, members_in, clients_in, run_in}
 use Rattle.ncc_world.proofs.Begun.{begins_more, grows_set}
 use Rattle.ncc_world.proofs.Keeping.{get_there, client_at}
 use Rattle.ncc_world.proofs.Turning.{counted, reply_some}
@@ -58,40 +58,42 @@ sits s w r index v k h e =
 
 -- ---- the members are the same, or one entry longer
 
-pub record Refused (s : Setup) (lists : Lists) (X Y : Proposed Seats) (m : KeptMembers) : Type 0 where
-  pub members : AreMembers s m lists
+pub record Refused (s : Setup) (seats : Seats) (history : List Item) (X Y : Proposed Seats) (m : KeptMembers) : Type 0 where
+  pub members : AreMembers s m seats history
   pub becomes : X ≡ Y
 
-elsewhere_by : (s : Setup) (lists : Lists) (X : Proposed Seats) (m : KeptMembers) → IsProposed s lists X proposal.Elsewhere m
-    → Refused s lists X elsewhere m
-elsewhere_by s lists elsewhere m k = record { members = k.1; becomes = refl }
-elsewhere_by s lists (full n) m k = absurd (let z = k.0 in cc)
-elsewhere_by s lists (placed place term after) m k = absurd (let z = k.0 in cc)
+elsewhere_by : (s : Setup) (seats : Seats) (history : List Item) (X : Proposed Seats) (m : KeptMembers)
+    → IsProposed s seats history X proposal.Elsewhere m → Refused s seats history X elsewhere m
+elsewhere_by s seats history elsewhere m k = record { members = k.1; becomes = refl }
+elsewhere_by s seats history (full n) m k = absurd (let z = k.0 in cc)
+elsewhere_by s seats history (placed place term after) m k = absurd (let z = k.0 in cc)
 
-full_by : (s : Setup) (lists : Lists) (X : Proposed Seats) (m : KeptMembers) (entries : ℕ) → IsProposed s lists X (proposal.Full entries) m
-    → Refused s lists X (full entries) m
-full_by s lists elsewhere m entries k = absurd (let z = k.0 in cc)
-full_by s lists (full n) m entries k = record {
+full_by : (s : Setup) (seats : Seats) (history : List Item) (X : Proposed Seats) (m : KeptMembers) (entries : ℕ)
+    → IsProposed s seats history X (proposal.Full entries) m → Refused s seats history X (full entries) m
+full_by s seats history elsewhere m entries k = absurd (let z = k.0 in cc)
+full_by s seats history (full n) m entries k = record {
   members = k.1;
   becomes = ap (λ j. full j) (let z = k.0 in let same : n ≡ entries = cc in same);
 }
-full_by s lists (placed place term after) m entries k = absurd (let z = k.0 in cc)
+full_by s seats history (placed place term after) m entries k = absurd (let z = k.0 in cc)
 
-pub was_elsewhere : (s : Setup) (lists : Lists) (X : Proposed Seats) (m : KeptMembers) (p : Proposal) → IsProposed s lists X p m
-    → p ≡ proposal.Elsewhere → Refused s lists X elsewhere m
-was_elsewhere s lists X m p k e = elsewhere_by s lists X m (subst (λ (q : Proposal). IsProposed s lists X q m) e k)
+pub was_elsewhere : (s : Setup) (seats : Seats) (history : List Item) (X : Proposed Seats) (m : KeptMembers) (p : Proposal)
+    → IsProposed s seats history X p m → p ≡ proposal.Elsewhere → Refused s seats history X elsewhere m
+was_elsewhere s seats history X m p k e =
+    elsewhere_by s seats history X m (subst (λ (q : Proposal). IsProposed s seats history X q m) e k)
 
-pub was_full : (s : Setup) (lists : Lists) (X : Proposed Seats) (m : KeptMembers) (p : Proposal) (entries : ℕ) → IsProposed s lists X p m
-    → p ≡ proposal.Full entries → Refused s lists X (full entries) m
-was_full s lists X m p entries k e = full_by s lists X m entries (subst (λ (q : Proposal). IsProposed s lists X q m) e k)
+pub was_full : (s : Setup) (seats : Seats) (history : List Item) (X : Proposed Seats) (m : KeptMembers) (p : Proposal) (entries : ℕ)
+    → IsProposed s seats history X p m → p ≡ proposal.Full entries → Refused s seats history X (full entries) m
+was_full s seats history X m p entries k e =
+    full_by s seats history X m entries (subst (λ (q : Proposal). IsProposed s seats history X q m) e k)
 
--- nothing changed but the members, and these stand for the same lists
-pub kept_by : (s : Setup) (r : WorldRun) (old new : Running) → RunsAs s (run_in old) r → AreMembers s (members_in new.members) r.members
+-- nothing changed but what the members keep, and that stands for the same members and history
+pub kept_by : (s : Setup) (r : WorldRun) (old new : Running) → RunsAs s (run_in old) r
+    → AreMembers s (members_in new.members) r.members r.history
     → new.clock ≡ old.clock → new.clients ≡ old.clients → new.told ≡ old.told → new.earlier.items ≡ old.earlier.items
     → RunsAs s (run_in new) r
 kept_by s r old new k m clock clients told earlier = record {
   now = clock ∙ k.now;
-  history = sym m.first ∙ k.members.first ∙ k.history;
   members = m;
   clients = subst (λ (x : Clients). AreServed s (length (lists_of r.members)) (clients_in x) r.clients) (sym clients) k.clients;
   told = told ∙ k.told;
@@ -123,44 +125,35 @@ full_fits s r v seen c entry entries k e h =
 
 -- ---- an entry that was placed
 
-pub record Accepted (s : Setup) (lists : Lists) (X : Proposed Seats) (p : ProposedAt) (m : KeptMembers) : Type 0 where
-  pub after : Lists
+pub record Accepted (s : Setup) (seats : Seats) (history : List Item) (X : Proposed Seats) (p : ProposedAt) (m : KeptMembers) : Type 0 where
+  pub after : Seats
   pub becomes : X ≡ placed p.place p.term after
-  pub members : AreMembers s m after
-  pub count : length after ≡ length lists
   pub some : 0 < p.place
-  pub grows : (member : ℕ) → Begins (list_at lists member) (list_at after member)
+  pub become : BecomeMembers s m seats history after
 
-placed_by : (s : Setup) (lists : Lists) (entry : Entry) (p : ProposedAt) (m : KeptMembers) (b d : Bool)
-    → IsProposed s lists (cond b (cond d (full (length (list_at lists 1))) (placed (length (list_at lists 1) + 1) 1 (appended lists entry))) elsewhere)
-    (proposal.Placed p) m
-    → Accepted s lists (cond b (cond d (full (length (list_at lists 1))) (placed (length (list_at lists 1) + 1) 1 (appended lists entry))) elsewhere) p m
-placed_by s lists entry p m false d k = absurd (let z = k.0 in cc)
-placed_by s lists entry p m true true k = absurd (let z = k.0 in cc)
-placed_by s lists entry p m true false k =
+placed_by : (s : Setup) (seats : Seats) (history : List Item) (X : Proposed Seats) (p : ProposedAt) (m : KeptMembers)
+    → IsProposed s seats history X (proposal.Placed p) m → Accepted s seats history X p m
+placed_by s seats history elsewhere p m k = absurd (let z = k.0 in cc)
+placed_by s seats history (full n) p m k = absurd (let z = k.0 in cc)
+placed_by s seats history (placed place term after) p m k =
     let z = k.0 in
-    let same : p ≡ record { place = length (list_at lists 1) + 1; term = 1 } = cc in
+    let same : p ≡ record { place = place; term = term } = cc in
     record {
-      after = appended lists entry;
-      becomes = ap (λ (q : ProposedAt). placed q.place q.term (appended lists entry)) (sym same);
-      members = k.1;
-      count = length-set lists 0 _;
-      some = omega (arith, ap (λ (q : ProposedAt). q.place) same);
-      grows = λ member.
-          grows_set lists 0 (list_at lists 1 ++ (item_of entry ∷ [])) (begins_more (list_at lists 1) (item_of entry ∷ [])) (member - 1);
+      after = after;
+      becomes = ap (λ (q : ProposedAt). placed q.place q.term after) (sym same);
+      some = subst (λ (q : ProposedAt). 0 < q.place) (sym same) k.1;
+      become = k.2;
     }
 
-pub was_placed : (s : Setup) (lists : Lists) (member : ℕ) (entry : Entry) (m : KeptMembers) (p : Proposal) (place : ProposedAt)
-    → IsProposed s lists ((cluster_of s).propose lists member entry) p m → p ≡ proposal.Placed place
-    → Accepted s lists ((cluster_of s).propose lists member entry) place m
-was_placed s lists member entry m p place k e =
-    placed_by s lists entry place m (member == 1) (nat_le s.limit (length (list_at lists 1)))
-    (subst (λ (q : Proposal). IsProposed s lists ((cluster_of s).propose lists member entry) q m) e k)
+pub was_placed : (s : Setup) (seats : Seats) (history : List Item) (X : Proposed Seats) (m : KeptMembers) (p : Proposal) (place : ProposedAt)
+    → IsProposed s seats history X p m → p ≡ proposal.Placed place → Accepted s seats history X place m
+was_placed s seats history X m p place k e =
+    placed_by s seats history X place m (subst (λ (q : Proposal). IsProposed s seats history X q m) e k)
 
-pub accepted_as : (s : Setup) (r : WorldRun) (i : ℕ) (d : Client) (place term : ℕ) (after : Lists) (now : ℕ) (m : KeptMembers) (k : KeptClients)
-    (told : List Told) (es : List (Option Earlier)) → now ≡ r.now → m.items ≡ longest r.history after → AreMembers s m after
-    → AreServed s (length after) k (slice_set r.clients i (with_placing r.now d place term)) → told ≡ r.told
+pub accepted_as : (s : Setup) (r : WorldRun) (i : ℕ) (d : Client) (place term : ℕ) (after : Seats) (now : ℕ) (m : KeptMembers) (k : KeptClients)
+    (told : List Told) (es : List (Option Earlier)) → now ≡ r.now → AreMembers s m after (longest r.history (lists_of after))
+    → AreServed s (length (lists_of after)) k (slice_set r.clients i (with_placing r.now d place term)) → told ≡ r.told
     → AllRemember s es (accepted (cluster_of s) r i d place term after)
     → RunsAs s (record { now = now; members = m; clients = k; told = told; earlier = es }) (accepted (cluster_of s) r i d place term after)
-accepted_as s r i d place term after now m k told es e f g h j l =
-    record { now = e; history = f; members = g; clients = h; told = j; earlier = l }
+accepted_as s r i d place term after now m k told es e g h j l =
+    record { now = e; members = g; clients = h; told = j; earlier = l }

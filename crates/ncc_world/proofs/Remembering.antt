@@ -26,7 +26,7 @@ use Rattle.ncc_world.specs.declared.setup.Setup.{Setup}
 use Rattle.ncc_world.specs.declared.earlier.Earlier.{Earlier}
 use Rattle.ncc_world.specs.declared.seen.ConnSeen.{ConnSeen}
 use Rattle.ncc_world.specs.declared.served.Served.{Served}
-use Rattle.ncc_world.specs.Setting.{Lists, cluster_of, list_at}
+use Rattle.ncc_world.specs.Setting.{cluster_of, list_at, Seats, lists_of}
 use Rattle.ncc_world.specs.Happening.{WorldRun, start_of}
 use Rattle.ncc_world.specs.Earlier.{Left, open_behind, InTurn, IsOfOpen, IsKeptOf, Remembers, AllRemember}
 use Rattle.ncc_world.specs.Earlier.{IsFrom, LeftBy, LeftFor}
@@ -277,21 +277,21 @@ one_told s es line r i c fact o k there new = record {
   go j x y (inr e) (inr f) = k.each j x y e.1 f.1
 
 -- the members apply more
-pub all_grown : (s : Setup) (es : List (Option Earlier)) (r : WorldRun) (members : Lists) → AllRemember s es r
-    → ((member : ℕ) → Begins (list_at (lists_of r.members) member) (list_at members member))
+pub all_grown : (s : Setup) (es : List (Option Earlier)) (r : WorldRun) (members : Seats) → AllRemember s es r
+    → ((member : ℕ) → Begins (list_at (lists_of r.members) member) (list_at (lists_of members) member))
     → AllRemember s es (moved (cluster_of s) r members)
 all_grown s es r members k h = record {
   count = k.count;
-  each = λ i c o e f. grown_remembers s (list_at (lists_of r.members) c.member) (list_at members c.member) c o (h c.member) (k.each i c o e f);
+  each = λ i c o e f. grown_remembers s (list_at (lists_of r.members) c.member) (list_at (lists_of members) c.member) c o (h c.member) (k.each i c o e f);
 }
 
-pub all_accepted : (s : Setup) (es : List (Option Earlier)) (r : WorldRun) (i : ℕ) (c : Client) (place term : ℕ) (members : Lists)
+pub all_accepted : (s : Setup) (es : List (Option Earlier)) (r : WorldRun) (i : ℕ) (c : Client) (place term : ℕ) (members : Seats)
     → AllRemember s es r → slice_get r.clients i ≡ Some c
-    → ((member : ℕ) → Begins (list_at (lists_of r.members) member) (list_at members member))
+    → ((member : ℕ) → Begins (list_at (lists_of r.members) member) (list_at (lists_of members) member))
     → AllRemember s es (accepted (cluster_of s) r i c place term members)
 all_accepted s es r i c place term members k there h =
     one_changes s es (moved (cluster_of s) r members) i c (with_placing r.now c place term) (all_grown s es r members k h) there
-    (λ o. placed_remembers s (list_at members c.member) r.now place term c o)
+    (λ o. placed_remembers s (list_at (lists_of members) c.member) r.now place term c o)
 
 -- one connection is told a fact that answers its question
 pub all_told : (s : Setup) (es : List (Option Earlier)) (line : ℕ) (r : WorldRun) (i : ℕ) (c : Client) (v : Served) (seen : ConnSeen)

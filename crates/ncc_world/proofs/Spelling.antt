@@ -21,7 +21,7 @@ use Rattle.ncc_clients.specs.Run.{Client, reply, proposes, question_of, answers,
 use Rattle.ncc_world.specs.declared.setup.Setup.{Setup}
 use Rattle.ncc_world.specs.declared.seen.ConnSeen.{ConnSeen}
 use Rattle.ncc_world.specs.declared.served.Served.{Served}
-use Rattle.ncc_world.specs.Setting.{cluster_of}
+use Rattle.ncc_world.specs.Setting.{cluster_of, lists_of}
 use Rattle.ncc_world.specs.Happening.{WorldRun}
 use Rattle.ncc_world.specs.World.{IsClient, asked_by}
 use Rattle.ncc_world.specs.Spellable.{rows_fit}

@@ -62,7 +62,6 @@ all_stands w r k = record { runs_as = k.runs_as; drives = k.drives; members = k.
 runs_ticked : (s : Setup) (w : KeptRun) (r : WorldRun) (to : ℕ) → RunsAs s w r → RunsAs s (record w { now = to }) (ticked r to)
 runs_ticked s w r to k = record {
   now = refl;
-  history = k.history;
   members = k.members;
   clients = k.clients;
   told = k.told;
@@ -103,7 +102,6 @@ ticked_all s w r to k e = record {
 pub driven : (s : Setup) (w : KeptRun) (r : WorldRun) (driving : Driving) → RunsAs s w r → RunsAs s w (record r { driving = driving })
 driven s w r driving k = record {
   now = k.now;
-  history = k.history;
   members = k.members;
   clients = k.clients;
   told = k.told;

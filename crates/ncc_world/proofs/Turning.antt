@@ -16,7 +16,7 @@ use Rattle.ncc_clients.specs.Run.{Client, waits, tells, proposes, reply, reply_b
 use Rattle.ncc_world.specs.declared.setup.Setup.{Setup}
 use Rattle.ncc_world.specs.declared.seen.ConnSeen.{ConnSeen}
 use Rattle.ncc_world.specs.declared.served.Served.{Served}
-use Rattle.ncc_world.specs.Setting.{cluster_of}
+use Rattle.ncc_world.specs.Setting.{cluster_of, lists_of}
 use Rattle.ncc_world.specs.Happening.{WorldRun}
 use Rattle.ncc_world.specs.World.{KeptRun, RunsAs, AreClients, IsClient}
 use Rattle.ncc_world.specs.Parts.{IsAskedOf}

@@ -17,7 +17,7 @@ use Rattle.ncc_clients.specs.Drives.{does_by, does, does_all, more, knows, does_
 use Rattle.ncc_clients.specs.Drives.{is_due, woken, wakes_from, wakes_all}
 use Rattle.ncc_clients.proofs.Lists.{set_other}
 use Rattle.ncc_world.specs.declared.setup.Setup.{Setup}
-use Rattle.ncc_world.specs.Setting.{Lists, cluster_of}
+use Rattle.ncc_world.specs.Setting.{cluster_of, Seats}
 use Rattle.ncc_world.specs.Happening.{WorldRun}
 use Rattle.ncc_world.specs.Drivers.{IsAwake, due_from}
 

@@ -16,34 +16,35 @@ use Rattle.ncc_clients.specs.Run.{Client, question_of, deadline_of, reply, reply
 use Rattle.ncc_world.specs.declared.setup.Setup.{Setup}
 use Rattle.ncc_world.specs.declared.event.Event.TheVariants as event
 use Rattle.ncc_world.specs.declared.error.WorldError.TheVariants as error
-use Rattle.ncc_world.specs.Setting.{IsSetup, Lists, cluster_of, nobody, list_at, appended}
+use Rattle.ncc_world.specs.Setting.{IsSetup, Lists, cluster_of, nobody, list_at, appended, Seats, over_list, over_raft, lists_of}
 use Rattle.ncc_world.specs.Requests.{client_bytes}
 use Rattle.ncc_clients.specs.Links.{Link, Linked, Driver, lift_bytes}
 use Rattle.ncc_clients.specs.Drives.{feeds_one, driver_at, is_busy, lifts, lifts_by, falls, falls_by, cuts, cuts_by, up_at, down_at, waits_above, Rests}
 use Rattle.ncc_world.specs.declared.event.Job.{Job}
-use Rattle.ncc_world.specs.Happening.{WorldRun, unless, is_printed, is_linked, is_open_made, is_session, is_busy_at, refusal, own, asks, Steps}
+use Rattle.ncc_safety.specs.Fleet.{Fleet}
+use Rattle.ncc_world.specs.Happening.{WorldRun, unless, refuses_apply, is_printed, is_linked, is_open_made, is_session, is_busy_at, refusal, own, asks, Steps}
 
 -- ---- members
 
 full_or : (lists : Lists) (entry : Entry) → Bool → Proposed Seats
-full_or lists entry b = cond b (full (length (list_at lists 1))) (placed (length (list_at lists 1) + 1) 1 (appended lists entry))
+full_or lists entry b = cond b (full (length (list_at lists 1))) (placed (length (list_at lists 1) + 1) 1 (over_list (appended lists entry)))
 
 pub first_entry : (s : Setup) (entry : Entry) → IsSetup s
-    → (cluster_of s).propose (nobody s) 1 entry ≡ placed 1 1 (appended (nobody s) entry)
+    → (cluster_of s).propose (over_list (nobody s)) 1 entry ≡ placed 1 1 (over_list (appended (nobody s) entry))
 unfolding full_or
 first_entry s entry h =
     let none : list_at (nobody s) 1 ≡ [] = go (s.cores + s.replicas) in
     let len : length (list_at (nobody s) 1) ≡ 0 = ap length none in
     let more : nat_le s.limit (length (list_at (nobody s) 1)) ≡ false =
     lt-leb s.limit (length (list_at (nobody s) 1)) (omega (arith, h.limit.0, len)) in
-    ap (full_or (nobody s) entry) more ∙ ap (λ n. placed (n + 1) 1 (appended (nobody s) entry)) len
+    ap (full_or (nobody s) entry) more ∙ ap (λ n. placed (n + 1) 1 (over_list (appended (nobody s) entry))) len
   where
     go : (n : ℕ) → list_at (replicate n []) 1 ≡ []
     go zero = refl
     go (suc n) = refl
 
 pub full_log : (s : Setup) (lists : Lists) (entry : Entry) → length (list_at lists 1) ≡ s.limit
-    → (cluster_of s).propose lists 1 entry ≡ full s.limit
+    → (cluster_of s).propose (over_list lists) 1 entry ≡ full s.limit
 unfolding full_or
 full_log s lists entry e =
     let enough : nat_le s.limit (length (list_at lists 1)) ≡ true = le-leb s.limit (length (list_at lists 1)) (omega (arith, e)) in
@@ -57,9 +58,25 @@ clock_stands r = ap (λ b. unless b error.BackInTime) (le-leb r.now r.now (omega
 pub clock_back : (r : WorldRun) (to : ℕ) → to < r.now → refusal r (event.Time to) ≡ Some error.BackInTime
 clock_back r to h = ap (λ b. unless b error.BackInTime) (lt-leb r.now to h)
 
-pub leader_lags_not : (r : WorldRun) (count : ℕ) → 1 ≤ length (lists_of r.members) → refusal r (event.Apply 1 count) ≡ Some error.WrongRole
-leader_lags_not r count h =
-    ap (λ b. cond (true && b) (Some error.WrongRole) (Some error.NoMember)) (le-leb 1 (length (lists_of r.members)) h)
+-- an event by which a member applies, among these members
+applies_in : (r : WorldRun) (seats : Seats) (member count : ℕ) → r.members ≡ seats
+    → refusal r (event.Apply member count) ≡ refuses_apply seats (nat_le 1 member && nat_le member (length (lists_of seats))) member
+applies_in r seats member count e =
+    ap (λ (x : Seats). refuses_apply x (nat_le 1 member && nat_le member (length (lists_of x))) member) e
+
+pub leader_lags_not : (r : WorldRun) (lists : Lists) (count : ℕ) → r.members ≡ over_list lists → 1 ≤ length lists
+    → refusal r (event.Apply 1 count) ≡ Some error.WrongRole
+leader_lags_not r lists count e h =
+    applies_in r (over_list lists) 1 count e
+    ∙ ap (λ b. cond (true && b) (Some error.WrongRole) (Some error.NoMember)) (le-leb 1 (length lists) h)
+
+pub nobody_lags : (r : WorldRun) (lists : Lists) (count : ℕ) → r.members ≡ over_list lists
+    → refusal r (event.Apply 0 count) ≡ Some error.NoMember
+nobody_lags r lists count e = applies_in r (over_list lists) 0 count e
+
+pub raft_lags_not : (r : WorldRun) (fleet : Fleet) (member count : ℕ) → r.members ≡ over_raft fleet
+    → refusal r (event.Apply member count) ≡ Some error.WrongWorld
+raft_lags_not r fleet member count e = applies_in r (over_raft fleet) member count e
 
 get_last : {X : Type 0} (xs : List X) (x : X) → slice_get (xs ++ (x ∷ [])) (length xs) ≡ Some x
 get_last [] x = refl

@@ -14,7 +14,7 @@ use Rattle.ncc_world.specs.declared.setup.Setup.{Setup}
 use Rattle.ncc_world.specs.declared.event.Event.{Event}
 use Rattle.ncc_world.specs.Events.{MayHappen}
 use Rattle.ncc_safety.specs.Fleet.{fleet_start}
-use Rattle.ncc_world.specs.Setting.{IsSetup, Seats, over_raft, lists_of, cluster_of, seats_of, shape_of}
+use Rattle.ncc_world.specs.Setting.{IsSetup, over_raft, lists_of, cluster_of, seats_of, shape_of}
 use Rattle.ncc_world.specs.Happening.{WorldRun, start_of, RunsOn, Within}
 
 -- at every moment every member's applied list begins the history of the whole run

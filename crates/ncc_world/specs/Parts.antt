@@ -16,7 +16,7 @@ use Rattle.ncc_store.specs.Exec.{exec}
 use Rattle.ncc_store.specs.Graph.{Graph}
 use Rattle.ncc_tx.specs.declared.entry.Entry.{Entry}
 use Rattle.ncc_session.specs.Talk.{Talk, asked, fits_at, measure}
-use Rattle.ncc_clients.specs.Members.{Proposed, elsewhere, full, placed}
+use Rattle.ncc_clients.specs.Members.{Proposed, elsewhere, full, placed, longest}
 use Rattle.ncc_clients.specs.Run.{Client, Placing, Reply, waits, tells, proposes, with_bytes, with_fact, with_placing, deadline_of}
 use Rattle.ncc_clients.specs.Run.{question_of, last_rows}
 use Rattle.ncc_clients.specs.Links.{Driver}
@@ -42,7 +42,7 @@ use Rattle.ncc_world.specs.declared.answer.Reply as declared
 use Rattle.ncc_world.specs.declared.answer.Reply.TheVariants as answer
 use Rattle.ncc_world.specs.declared.running.Running.{Running}
 use Rattle.ncc_world.specs.declared.drivers.Drivers.{Drivers}
-use Rattle.ncc_world.specs.Setting.{Lists, Seats, lists_of, cluster_of, list_at}
+use Rattle.ncc_world.specs.Setting.{Lists, Seats, over_list, over_raft, lists_of, cluster_of, list_at}
 use Rattle.ncc_world.specs.Earlier.{LeftBy, LeftFor, Remembers}
 use Rattle.ncc_world.specs.declared.earlier.Earlier.{Earlier}
 use Rattle.ncc_world.specs.Drivers.{KeptDrivers, AreAtWork, IsAwake}
@@ -87,16 +87,31 @@ pub record HasList (s : Setup) (m : OneList) : Type 0 where
   pub lists : Lists
   pub are : AreOneList s (list_in m) lists
 
+-- what became of an entry over one list
+abbrev pub IsOffered : Setup → Lists → Proposed Seats → Proposal → KeptMembers → Type 0
+IsOffered s lists elsewhere p m = (p ≡ proposal.Elsewhere) × AreOneList s m lists
+IsOffered s lists (full entries) p m = (p ≡ proposal.Full entries) × AreOneList s m lists
+IsOffered s lists (placed place term (over_list after)) p m =
+    (p ≡ proposal.Placed (record { place = place; term = term })) × AreOneList s m after
+IsOffered s lists (placed place term (over_raft fleet)) p m = ⊥
+
 pub record HasSeats (s : Setup) (m : Members) : Type 0 where
   pub seats : Seats
-  pub are : AreMembers s (members_in m) seats
+  pub history : List Item
+  pub are : AreMembers s (members_in m) seats history
+
+-- The members are others, as many as before, the list of each has only grown, and the history was looked at again.
+pub record BecomeMembers (s : Setup) (m : KeptMembers) (old : Seats) (history : List Item) (new : Seats) : Type 0 where
+  pub are : AreMembers s m new (longest history (lists_of new))
+  pub count : length (lists_of new) ≡ length (lists_of old)
+  pub grow : (member : ℕ) → Begins (list_at (lists_of old) member) (list_at (lists_of new) member)
 
 -- what became of an entry
-abbrev pub IsProposed : Setup → Seats → Proposed Seats → Proposal → KeptMembers → Type 0
-IsProposed s seats elsewhere p m = (p ≡ proposal.Elsewhere) × AreMembers s m seats
-IsProposed s seats (full entries) p m = (p ≡ proposal.Full entries) × AreMembers s m seats
-IsProposed s seats (placed place term after) p m =
-    (p ≡ proposal.Placed (record { place = place; term = term })) × AreMembers s m after
+abbrev pub IsProposed : Setup → Seats → List Item → Proposed Seats → Proposal → KeptMembers → Type 0
+IsProposed s seats history elsewhere p m = (p ≡ proposal.Elsewhere) × AreMembers s m seats history
+IsProposed s seats history (full entries) p m = (p ≡ proposal.Full entries) × AreMembers s m seats history
+IsProposed s seats history (placed place term after) p m =
+    (p ≡ proposal.Placed (record { place = place; term = term })) × (0 < place) × BecomeMembers s m seats history after
 
 -- ---- connections
 
@@ -207,12 +222,11 @@ pub record IsAskedOf (s : Setup) (now : ℕ) (member deadline : ℕ) (placing : 
 pub record Offered (s : Setup) (r : WorldRun) (c : Client) (p : Proposal) (old new : Running) : Type 0 where
   pub entry : Entry
   pub entry_is : IsEntryOf (question_of (cluster_of s) c) entry
-  pub proposed_so : IsProposed s r.members ((cluster_of s).propose r.members c.member entry) p (members_in new.members)
+  pub proposed_so : IsProposed s r.members r.history ((cluster_of s).propose r.members c.member entry) p (members_in new.members)
   pub clock : new.clock ≡ old.clock
   pub clients : new.clients ≡ old.clients
   pub told : new.told ≡ old.told
   pub earlier : new.earlier.items ≡ old.earlier.items
-  pub grows : Begins old.members.list.items new.members.list.items
 
 -- it stands for a run that this reply makes
 abbrev pub DoesTo : Setup → ℕ → WorldRun → ℕ → Client → Reply → KeptRun → Type 0

@@ -56,9 +56,10 @@ pub record AreOneList (s : Setup) (m : KeptMembers) (lists : Lists) : Type 0 whe
   pub some : 0 < length lists
   pub seen : m.seen ≡ members_from s 1 lists
 
-abbrev pub AreMembers : Setup → KeptMembers → Seats → Type 0
-AreMembers s m (over_list lists) = AreOneList s m lists
-AreMembers s m (over_raft fleet) = ⊥
+-- the members of a run, and its history
+abbrev pub AreMembers : Setup → KeptMembers → Seats → List Item → Type 0
+AreMembers s m (over_list lists) history = AreOneList s m lists × (m.items ≡ history)
+AreMembers s m (over_raft fleet) history = ⊥
 
 -- ---- connections: their numbers, what is kept of each, what each shows, and who waits at each member and has not ended
 
@@ -171,8 +172,7 @@ pub record KeptRun : Type 0 where
 
 pub record RunsAs (s : Setup) (k : KeptRun) (r : WorldRun) : Type 0 where
   pub now : k.now ≡ r.now
-  pub history : k.members.items ≡ r.history
-  pub members : AreMembers s k.members r.members
+  pub members : AreMembers s k.members r.members r.history
   pub clients : AreServed s (length (lists_of r.members)) k.clients r.clients
   pub told : k.told ≡ r.told
   pub earlier : AllRemember s k.earlier r

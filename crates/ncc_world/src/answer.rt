@@ -235,13 +235,13 @@ pub(crate) fn answered(
     now: u64,
     deadline: u64,
 ) -> Result<Reply, Memory>
-    requires from { (seats : Seats) × AreMembers setup.now (members_in members.now) seats
+    requires from { (seats : Seats) × (h : List Items) × AreMembers setup.now (members_in members.now) seats h
         × ((calls : List Calls) → question_of ask.now ≡ run calls → IsFrom (list_at (lists_of seats) member) calls earlier) }
     requires there { (1 ≤ member) × (member ≤ length members.now.list.shelves.items) }
-    ensures exact { IfOk result (λ a. (r : WorldRun) (c : Client) → AreMembers setup.now (members_in members.now) r.members →
+    ensures exact { IfOk result (λ a. (r : WorldRun) (c : Client) → AreMembers setup.now (members_in members.now) r.members r.history →
         IsAskedOf setup.now now member deadline placing r c →
         reply_in a ≡ answers (cluster_of setup.now) r c (question_of ask.now)) }
-    ensures left { IfOk result (λ a. (seats : Seats) → AreMembers setup.now (members_in members.now) seats →
+    ensures left { IfOk result (λ a. (seats : Seats) (h : List Items) → AreMembers setup.now (members_in members.now) seats h →
         LeftIn (list_at (lists_of seats) member) (question_of ask.now) a) }
 {
     let shelf = members.shelf(member as usize - 1);

@@ -30,8 +30,8 @@ mod world;
 pub use error::{Which, WorldError};
 pub use event::{Bookmarks, Event, Job};
 pub use laws::{
-    each_kind_keeps_four, every_run_keeps, requests_fit, worked_events, worked_members, worked_sessions,
-    worked_waits,
+    each_kind_keeps_four, every_run_keeps, requests_fit, worked_events, worked_members,
+    worked_sessions, worked_waits,
 };
 pub use ncc_apply::{Shelf, Stamp};
 pub use ncc_clients::Told;

@@ -3,13 +3,15 @@
 ghost use Rattle.std.specs.Prelude.{◌≡◌, ◌+◌, ◌-◌, ◌<◌, ◌≤◌, ◌++◌, ◌∷◌, [], List, length, take, slice_index_or, slice_set, IfOk, OnOk, IsTrue};
 ghost use Rattle.ncc_tx.specs.declared.entry.Item.{Item as Items};
 ghost use Rattle.ncc_tx.specs.Items.{entry_allowed};
+ghost use Rattle.ncc_tx.specs.State.{stamps};
+ghost use Rattle.ncc_apply.specs.View.{stamp_of};
 ghost use Rattle.ncc_apply.specs.Shelf.{Stands as ShelfStands};
 ghost use Rattle.ncc_clients.specs.Members.{Cluster};
 ghost use Rattle.ncc_clients.specs.Four.{Begins};
 ghost use Rattle.ncc_world.specs.Showing.{member_seen};
 ghost use Rattle.ncc_world.specs.Setting.{IsSetup, Lists, over_list, cluster_of, list_at, nobody, lagging};
 ghost use Rattle.ncc_world.specs.World.{AreOneList};
-ghost use Rattle.ncc_world.specs.Parts.{HasList, IsProposed, list_in};
+ghost use Rattle.ncc_world.specs.Parts.{HasList, IsOffered, list_in};
 ghost use Rattle.ncc_world.specs.declared.setup.Setup.{Setup as Setups};
 
 use crate::log::Log;
@@ -18,7 +20,7 @@ use crate::seen::{MemberList, MemberSeen, Shown};
 use crate::served::ProposedAt;
 use crate::setup::Setup;
 use crate::taken::taken;
-use ncc_apply::{Shelf, View};
+use ncc_apply::{Shelf, Stamp, View};
 use ncc_pack::{Memory, Sequence};
 use ncc_tx::{Entry, Item};
 use std::alloc::Global;
@@ -146,6 +148,16 @@ impl OneList {
         self.shelf(index).at()
     }
 
+    /// The stamp of a place of the list, which member 1 has applied. None at 0 and past the end.
+    pub(crate) fn stamp(&self, place: u64) -> Option<Stamp>
+        ensures stamp { (s : Setups) (lists : Lists) → AreOneList s (list_in self.now) lists → result ≡ stamp_of place (stamps self.now.items) }
+    {
+        match self.shelves.first() {
+            Some(shelf) => shelf.stamp(place),
+            None => None,
+        }
+    }
+
     // Member 1 appends an item, and applies it.
     fn append(&mut self, item: Item) -> Result<(), Memory>
         requires allowed { IsTrue (entry_allowed item.entry) }
@@ -171,7 +183,7 @@ impl OneList {
         requires allowed { IsTrue (entry_allowed entry.now) }
         requires lists { HasList setup.now self.old }
         ensures ok { IfOk result (λ p. (lists : Lists) → AreOneList setup.now (list_in self.old) lists →
-            IsProposed setup.now (over_list lists) ((cluster_of setup.now).propose (over_list lists) member entry.now) p (list_in self.new)) }
+            IsOffered setup.now lists ((cluster_of setup.now).propose (over_list lists) member entry.now) p (list_in self.new)) }
         ensures only_grows { IfOk result (λ p. Begins self.old.items self.new.items) }
     {
         if !leads(member) {

@@ -18,7 +18,7 @@ use crate::event::Event;
 use crate::running::Running;
 use crate::seen::{ConnList, MemberList, ToldList, WorkList};
 use crate::setup::Setup;
-use ncc_apply::{Shelf, Stamp, View};
+use ncc_apply::{Shelf, Stamp};
 use ncc_pack::Memory;
 use ncc_tx::Entries;
 use std::alloc::Global;
@@ -176,9 +176,6 @@ impl World {
     pub fn stamp(&self, place: u64) -> Option<Stamp>
         ensures stamp { (r : WorldRun) → Stands self.now r → result ≡ stamp_of place (stamps r.history) }
     {
-        match self.shelf(1) {
-            Some(shelf) => shelf.stamp(place),
-            None => None,
-        }
+        self.run.members.stamp(place)
     }
 }

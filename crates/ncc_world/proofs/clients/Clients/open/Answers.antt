@@ -9,6 +9,7 @@ use Rattle.indexmap.specs.IndexMap.{get, values}
 use Rattle.indexmap.proofs.CallerLemmas.{insert_entry-new}
 use Rattle.ncc_session.specs.declared.config.ConnConfig.{ConnConfig}
 use Rattle.ncc_session.specs.Talk.{Stands as TalkStands}
+use Rattle.ncc_world.specs.Setting.{lists_of}
 use Rattle.ncc_world.specs.declared.seen.ConnSeen.{ConnSeen}
 use Rattle.ncc_world.specs.declared.served.Served.{Served}
 use Rattle.ncc_world.specs.World.{AreServed}

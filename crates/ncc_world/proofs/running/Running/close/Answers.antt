@@ -1,7 +1,7 @@
 use Rattle.std.proofs.Common.{◌∙◌, sym, refl, subst, length, true}
 use Rattle.ncc_world.specs.Happening.{WorldRun}
 use Rattle.ncc_world.specs.World.{RunsAs}
-use Rattle.ncc_world.specs.Setting.{list_at}
+use Rattle.ncc_world.specs.Setting.{list_at, lists_of}
 use Rattle.ncc_world.specs.Parts.{run_in, clients_in, members_in}
 use Rattle.ncc_world.proofs.Remembering.{one_changes, closed_remembers}
 use Rattle.ncc_world.proofs.Happened.{sits_at, closed_same, closed_now}
@@ -31,7 +31,6 @@ returns c = record {
       }) x)
       (closed_now r c.args.index h.client h.there (sym h.is.kept.closed ∙ c.if-served.false)) (record {
         now = k.now;
-        history = k.history;
         members = k.members;
         clients = c.in_ok-change.ensures.ok s (length (lists_of r.members)) r.clients h.client k.clients h.there refl;
         told = k.told;

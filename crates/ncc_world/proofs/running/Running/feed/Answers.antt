@@ -2,7 +2,7 @@ use Rattle.std.proofs.Common.{◌∙◌, ap, sym, refl, subst, length}
 use Rattle.std.specs.Prelude.{slice_set}
 use Rattle.ncc_world.specs.Happening.{WorldRun}
 use Rattle.ncc_world.specs.World.{RunsAs, AreServed}
-use Rattle.ncc_world.specs.Setting.{cluster_of, list_at}
+use Rattle.ncc_world.specs.Setting.{cluster_of, list_at, lists_of}
 use Rattle.ncc_session.specs.Session.{Standing}
 use Rattle.ncc_world.specs.Parts.{run_in, clients_in, members_in}
 use Rattle.ncc_clients.specs.Run.{with_bytes}
@@ -34,7 +34,6 @@ returns c = record {
       }) x)
       (fed_now s r c.args.index c.args.piece h.client h.there (sym h.is.kept.closed ∙ c.if-served.false)) (record {
         now = k.now;
-        history = k.history;
         members = k.members;
         clients = subst (λ n. AreServed s (length (lists_of r.members)) (clients_in c.change.new.self)
             (slice_set r.clients c.args.index (with_bytes (cluster_of s) n h.client c.args.piece))) k.now

@@ -4,9 +4,10 @@ use Rattle.ncc_wait.specs.declared.outcomes.Outcome.{Outcome}
 use Rattle.ncc_wait.specs.declared.parked.Parked.{Parked}
 use Rattle.ncc_wait.specs.Room.{next}
 use Rattle.ncc_world.specs.World.{parked_at}
-use Rattle.ncc_world.specs.Parts.{lower, number_of}
+use Rattle.ncc_world.specs.Setting.{lists_of}
+use Rattle.ncc_world.specs.Parts.{lower, members_in, number_of}
 use Rattle.ncc_world.proofs.Rooms.{get_or_any}
-use Rattle.ncc_world.proofs.Listing.{shelf_count}
+use Rattle.ncc_world.proofs.Seated.{shelves_count}
 use Rattle.ncc_world.proofs.Firsts.{first_within, within_none, within_more, within_all}
 use Rattle.ncc_world.proofs.running.Running.first.Goals as goal
 
@@ -19,7 +20,7 @@ at-requires c =
     record {
       there = omega (
         arith,
-        shelf_count _ _ c.requires.live.run.members k.members.shelves,
+        shelves_count c.args.setup.now (members_in c.args.self.now.members) c.requires.live.run.members c.requires.live.run.history k.members,
         k.clients.count_is,
         c.loop-index-test.true,
         ap length c.deref-room-items.ensures.value,
@@ -33,7 +34,7 @@ loop-index-preserved c = λ r k.
     let back : c.loop-index.index + 1 - 1 ≡ c.loop-index.index = omega arith in
     let none : List Item = [] in
     let at : c.at.result ≡ length (get_or (lists_of r.members) (c.loop-index.index + 1 - 1) none) =
-    c.at.ensures.at c.args.setup.now r.members k.members ∙ ap (λ n. length (get_or (lists_of r.members) n none)) (sym back) in
+    c.at.ensures.at c.args.setup.now r.members r.history k.members ∙ ap (λ n. length (get_or (lists_of r.members) n none)) (sym back) in
     let room : c.room-item.result ≡ parked_at c.args.setup.now (c.loop-index.index + 1) r.clients =
     c.room-item.is ∙ get_or_any c.deref-room-items.result.now c.loop-index.index c.room-item.result [] c.loop-index-test.true
     ∙ ap (λ (x : List (List Parked)). get_or x c.loop-index.index []) c.deref-room-items.ensures.value

@@ -3,7 +3,7 @@ use Rattle.std.proofs.lemmas.Option.{slice_get_read}
 use Rattle.std.specs.Prelude.{slice_get, slice_set}
 use Rattle.ncc_world.specs.declared.earlier.Earlier.{Earlier}
 use Rattle.ncc_world.specs.Earlier.{AllRemember, Remembers}
-use Rattle.ncc_world.specs.Setting.{list_at}
+use Rattle.ncc_world.specs.Setting.{list_at, lists_of}
 use Rattle.ncc_world.specs.Parts.{run_in}
 use Rattle.ncc_world.proofs.Remembering.{one_forgotten}
 use Rattle.ncc_world.proofs.Turning.{counted}
@@ -17,7 +17,6 @@ returns-clause-runs c = λ r k.
     omega (arith, k.earlier.count, (counted s (run_in c.args.self.now) r k).table, c.requires.there) in
     record {
       now = k.now;
-      history = k.history;
       members = k.members;
       clients = k.clients;
       told = k.told;

@@ -6,6 +6,7 @@ use Rattle.ncc_session.specs.declared.ask.Fact.{Fact}
 use Rattle.ncc_session.specs.Talk.{asked}
 use Rattle.ncc_clients.specs.declared.told.Told.{Told}
 use Rattle.ncc_clients.specs.Run.{Client, with_fact}
+use Rattle.ncc_world.specs.Setting.{lists_of}
 use Rattle.ncc_world.specs.Spellable.{rows_fit}
 use Rattle.ncc_world.specs.World.{AreServed, IsClient}
 use Rattle.ncc_world.specs.Parts.{run_in, clients_in}
@@ -35,7 +36,6 @@ returns c = record {
       let number = seen_at s (run_in c.args.self.now) r c.args.index c.shown.result.now d k there c.shown.ensures.shown in
       record {
         now = k.now;
-        history = k.history;
         members = k.members;
         clients = subst (λ n. AreServed s (length (lists_of r.members)) (clients_in c.change.new.self)
             (slice_set r.clients c.args.index (with_fact n d c.args.fact))) k.now
