@@ -3,6 +3,7 @@ use Rattle.std.proofs.Common.{◌≡◌, ℕ, ◌-◌, ◌≤◌, ◌<◌, inl, 
 use Rattle.std.specs.Prelude.{take, nat_le, not, ◌&&◌, ◌==◌, if◌then◌else◌}
 use Rattle.std.proofs.lemmas.Bool.Decides.{leb_tells}
 use Rattle.std.proofs.lemmas.Option.{slice_get_cases}
+use Rattle.ncc_tx.specs.declared.entry.Item.{Item}
 use Rattle.ncc_driver.specs.declared.action.Action.{Action}
 use Rattle.ncc_driver.specs.LawsFits.{AreBytes}
 use Rattle.ncc_clients.specs.Course.{ComeAsBytes}
@@ -14,12 +15,12 @@ use Rattle.ncc_world.specs.declared.error.WorldError.{WorldError}
 use Rattle.ncc_world.specs.declared.error.WorldError.TheVariants.{BackInTime, Busy, NoMember, NoSession, WrongRole}
 use Rattle.ncc_world.specs.declared.event.Event.TheVariants.{Apply}
 use Rattle.ncc_world.specs.declared.running.Running.{Running}
-use Rattle.ncc_world.specs.Setting.{cluster_of}
-use Rattle.ncc_world.specs.Happening.{WorldRun, is_member, is_session, is_busy_at, refusal, unless}
+use Rattle.ncc_world.specs.Setting.{Seats, over_list, over_raft, cluster_of}
+use Rattle.ncc_world.specs.Happening.{WorldRun, is_member, is_session, is_busy_at, refuses_apply, refusal, unless}
 use Rattle.ncc_world.specs.Drivers.{AreAtWork, IsOne, KeptDrivers, has_session, is_busy_in, left_of, refuses_work}
 use Rattle.ncc_world.specs.declared.world.World.TheInside.{Inside}
 use Rattle.ncc_world.specs.Inner.{kept_of}
-use Rattle.ncc_world.specs.World.{KeptRun, RunsAs, Stands}
+use Rattle.ncc_world.specs.World.{KeptMembers, KeptRun, AreMembers, RunsAs, Stands}
 use Rattle.ncc_world.specs.Parts.{HasDone, RunsAll, RunsMid, drivers_in, run_in}
 use Rattle.ncc_world.proofs.Opened.{allowed_by}
 
@@ -167,11 +168,20 @@ refusing r session =
       by_driver None = refl
       by_driver (Some d) = by_busy (is_busy d)
 
-pub refused_apply : (r : WorldRun) (member count : ℕ) (there first : Bool) → there ≡ is_member r member → first ≡ (member == 1)
+-- over one list, as these members are
+applies_as : (s : Setup) (m : KeptMembers) (seats : Seats) (history : List Item) (member : ℕ) (there first : Bool)
+    → AreMembers s m seats history → first ≡ (member == 1)
+    → (if there then (if first then Some WrongRole else None) else Some NoMember) ≡ refuses_apply seats there member
+applies_as s m (over_list lists) history member there first k f =
+    ap (λ (b : Bool). if there then (if b then Some WrongRole else None) else Some NoMember) f
+applies_as s m (over_raft fleet) history member there first k f = absurd k
+
+pub refused_apply : (s : Setup) (w : KeptRun) (r : WorldRun) (member count : ℕ) (there first : Bool) → RunsAs s w r
+    → there ≡ is_member r member → first ≡ (member == 1)
     → (if there then (if first then Some WrongRole else None) else Some NoMember) ≡ refusal r (Apply member count)
-refused_apply r member count there first e f =
-    ap (λ (b : Bool). if b then (if first then Some WrongRole else None) else Some NoMember) e
-    ∙ ap (λ (b : Bool). if is_member r member then (if b then Some WrongRole else None) else Some NoMember) f
+refused_apply s w r member count there first k e f =
+    applies_as s w.members r.members r.history member there first k.members f
+    ∙ ap (λ (b : Bool). refuses_apply r.members b member) e
 
 -- The list of sessions has as many as the run.
 pub has_counted : (s : Setup) (at : ℕ) (left : List Action) (pending : List ℕ) (k : KeptDrivers) (r : WorldRun) (session : ℕ)

@@ -9,9 +9,9 @@ use Rattle.ncc_world.specs.Events.{MayHappen}
 use Rattle.ncc_clients.specs.Run.{opened, moved, ticked}
 use Rattle.ncc_clients.specs.Drives.{feeds, closes, wakes_all, makes, begins, lifts, falls, cuts, driver_at}
 use Rattle.ncc_clients.specs.Links.{lift_bytes}
-use Rattle.ncc_world.specs.Setting.{cluster_of, lagging}
+use Rattle.ncc_world.specs.Setting.{cluster_of}
 use Rattle.ncc_world.specs.Requests.{put_request, get_request}
-use Rattle.ncc_world.specs.Happening.{WorldRun, asks, refusal, is_open_made, is_busy_at, config_of, meant}
+use Rattle.ncc_world.specs.Happening.{WorldRun, asks, lagged, refusal, is_open_made, is_busy_at, config_of, meant}
 use Rattle.ncc_world.specs.World.{RunsAs}
 use Rattle.ncc_world.specs.Parts.{RunsAll, run_in}
 use Rattle.ncc_world.proofs.Turning.{counted}
@@ -100,7 +100,7 @@ pub returns-in-Apply : goal.returns-in-Apply
 returns-in-Apply c = record {
   ok = on_ok_weaker c.apply.result (λ f r k.
       let s = c.args.setup.now in
-      let t : WorldRun = moved (cluster_of s) r (lagging r.members c.in-Apply.member c.in-Apply.count) in
+      let t : WorldRun = moved (cluster_of s) r (lagged r.members c.in-Apply.member c.in-Apply.count) in
       let all = mid_from s 0 [] [] c.args.self.now c.apply.new.self r t k (f r k.runs_as) c.apply.ensures.drivers
       (lagging_aside s r c.in-Apply.member c.in-Apply.count) in
       subst (Stepped s c.args.line c.apply.new.self r) (sym c.in-Apply.is)
