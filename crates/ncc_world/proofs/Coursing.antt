@@ -49,7 +49,8 @@ use Rattle.ncc_world.specs.declared.error.WorldError.TheVariants.{NoMember, NoCo
 use Rattle.ncc_world.specs.Setting.{IsSetup, cluster_of, MovesTo, Seats, seats_of}
 use Rattle.ncc_world.specs.Events.{MayHappen, MayBegin}
 use Rattle.ncc_world.specs.Requests.{client_bytes, put_request, get_request}
-use Rattle.ncc_world.specs.Happening.{WorldRun, start_of, unless, refusal, lagged, is_printed, is_linked, is_session, is_busy_at, config_of, meant, asks, own}
+use Rattle.ncc_world.specs.Happening.{WorldRun, start_of, refusal, lagged, is_printed, is_linked, is_session, is_busy_at, config_of, meant, asks, own}
+use Rattle.ncc_world.specs.Rafts.{unless}
 use Rattle.ncc_world.specs.Happening.{ComesAsBytes, Steps, Happens, RunsOn}
 use Rattle.ncc_world.specs.Headline.{AllMayHappen}
 use Rattle.ncc_world.proofs.Settling.{path_through}
@@ -138,7 +139,7 @@ all_three true true false e = (refl, refl)
 all_three true false c e = absurd (cc)
 all_three false b c e = absurd (cc)
 
-open_made : (r : WorldRun) (conn : ℕ) (bytes : List ℕ) → refusal r (Bytes conn bytes) ≡ None → IsNoLink r (conn - 1 + 1)
+open_made : (r : WorldRun) (conn : ℕ) (bytes : List ℕ) → refusal s r (Bytes conn bytes) ≡ None → IsNoLink r (conn - 1 + 1)
 open_made r conn bytes e =
     let h = all_three (nat_le 1 conn) (is_printed (slice_get r.clients (conn - 1))) (is_linked r conn) (not_refused _ NoConn e) in
     let low : 1 ≤ conn = leb-true 1 conn h.0 in
@@ -282,7 +283,7 @@ module _ (known : Known) (says : DriverSays) (s : Setup) (setup : IsSetup s) whe
         And r (descends C line k r) t (Falls line r k all_bytes fronts_are_taken.1 (come r (driver_at r k) b.0))
         (pumps_course limit (descends C line k r) t p b.1)
 
-  own_course : (line : ℕ) (event : Event) (r t : WorldRun) → Kept C r → refusal r event ≡ None → MayHappen s.cluster event
+  own_course : (line : ℕ) (event : Event) (r t : WorldRun) → Kept C r → refusal s r event ≡ None → MayHappen s.cluster event
       → Steps s line event r t → Course C r t
   unfolding own
   own_course line (Time to) r t k e may h =

@@ -18,7 +18,8 @@ use Rattle.ncc_world.specs.declared.error.WorldError.{WorldError}
 use Rattle.ncc_world.specs.declared.error.WorldError.TheVariants.{NoMember, WrongRole}
 use Rattle.ncc_world.specs.Setting.{Lists, Seats, over_list, over_raft, lists_of, MovesTo, cluster_of, lagging}
 use Rattle.ncc_world.specs.Requests.{client_bytes, put_request, get_request}
-use Rattle.ncc_world.specs.Happening.{WorldRun, start_of, unless, is_member, refuses_apply, refusal, lagged, config_of, meant, asks, own, Steps, Passes, Happens, RunsOn, Within}
+use Rattle.ncc_world.specs.Happening.{WorldRun, start_of, is_member, refuses_apply, refusal, lagged, config_of, meant, asks, own, Steps, Passes, Happens, RunsOn, Within}
+use Rattle.ncc_world.specs.Rafts.{unless}
 use Rattle.ncc_world.proofs.Settling.{SameSteps, path_through, turns_on}
 use Rattle.ncc_world.proofs.Silent.{Leads, stays, small, then_, feeds_leads, closes_leads, makes_leads, begins_leads, lifts_leads, falls_leads}
 use Rattle.ncc_world.proofs.Silent.{cuts_leads, wakes_leads}
@@ -77,11 +78,11 @@ lags_among s (over_list lists) member count e =
     )
 lags_among s (over_raft fleet) member count e = absurd (cc)
 
-pub lags_at : (s : Setup) (r : WorldRun) (member count : ℕ) → refusal r (Apply member count) ≡ None
+pub lags_at : (s : Setup) (r : WorldRun) (member count : ℕ) → refusal s r (Apply member count) ≡ None
     → MovesTo s r.members (lagged r.members member count)
 lags_at s r member count e = lags_among s r.members member count e
 
-pub own_leads : (s : Setup) (line : ℕ) (event : Event) (r : WorldRun) → refusal r event ≡ None
+pub own_leads : (s : Setup) (line : ℕ) (event : Event) (r : WorldRun) → refusal s r event ≡ None
     → Leads (cluster_of s) r (own s line event r)
 unfolding own
 own_leads s line (Time to) r e =
@@ -136,7 +137,7 @@ kind_of (Pump session requests) = pumps session requests
 kind_of (Cut session) = plain (Cut session) (λ s line r t h. h) (λ s line r m h. h) (λ s line r m h. h)
 
 steps_path : (s : Setup) → TurnsAreSmall (cluster_of s) → (line : ℕ) (event : Event) → Kind event → (r t : WorldRun)
-    → refusal r event ≡ None → Steps s line event r t → Path (cluster_of s) r t
+    → refusal s r event ≡ None → Steps s line event r t → Path (cluster_of s) r t
 steps_path s small_ line _ (pumps session requests) r t e h = pumps_path (cluster_of s) small_ line (session - 1) requests r t h.1
 steps_path s small_ line event (plain _ same out in_) r t e h =
     subst (λ u. Path (cluster_of s) r u) (sym (same s line r t h)) (own_leads s line event r e).path
@@ -148,7 +149,7 @@ one_step s way small_ line _ (pumps session requests) r t u h g =
 one_step s way small_ line event (plain _ same out in_) r t u h g = same s line r t h ∙ sym (same s line r u g)
 
 passes_path : (s : Setup) → TurnsAreSmall (cluster_of s) → (line : ℕ) (event : Event) → Kind event → (r m : WorldRun)
-    → refusal r event ≡ None → Passes s line event r m → Path (cluster_of s) r m
+    → refusal s r event ≡ None → Passes s line event r m → Path (cluster_of s) r m
 passes_path s small_ line _ (pumps session requests) r m e h = go h.1 where
   C : Cluster Seats
   C = cluster_of s

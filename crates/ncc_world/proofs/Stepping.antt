@@ -16,7 +16,8 @@ use Rattle.ncc_world.specs.declared.error.WorldError.TheVariants.{BackInTime, Bu
 use Rattle.ncc_world.specs.declared.event.Event.TheVariants.{Apply}
 use Rattle.ncc_world.specs.declared.running.Running.{Running}
 use Rattle.ncc_world.specs.Setting.{Seats, over_list, over_raft, cluster_of}
-use Rattle.ncc_world.specs.Happening.{WorldRun, is_member, is_session, is_busy_at, refuses_apply, refusal, unless}
+use Rattle.ncc_world.specs.Happening.{WorldRun, is_member, is_session, is_busy_at, refuses_apply, refusal}
+use Rattle.ncc_world.specs.Rafts.{unless}
 use Rattle.ncc_world.specs.Drivers.{AreAtWork, IsOne, KeptDrivers, has_session, is_busy_in, left_of, refuses_work}
 use Rattle.ncc_world.specs.declared.world.World.TheInside.{Inside}
 use Rattle.ncc_world.specs.Inner.{kept_of}
@@ -178,7 +179,7 @@ applies_as s m (over_raft fleet) history member there first k f = absurd k
 
 pub refused_apply : (s : Setup) (w : KeptRun) (r : WorldRun) (member count : ℕ) (there first : Bool) → RunsAs s w r
     → there ≡ is_member r member → first ≡ (member == 1)
-    → (if there then (if first then Some WrongRole else None) else Some NoMember) ≡ refusal r (Apply member count)
+    → (if there then (if first then Some WrongRole else None) else Some NoMember) ≡ refusal s r (Apply member count)
 refused_apply s w r member count there first k e f =
     applies_as s w.members r.members r.history member there first k.members f
     ∙ ap (λ (b : Bool). refuses_apply r.members b member) e
