@@ -180,13 +180,19 @@ def play(world, events, number, line):
 
 def replay(script):
     """The status, the report, and what is said."""
+    status, said, world = run_script(script)
+    return status, "" if status else report(world), said
+
+
+def run_script(script):
+    """The status, what is said, and the world behind the last line."""
     if len(script) > SCRIPT:
-        return 6, "", "limit: script"
+        return 6, "limit: script", None
     lines = script.split(b"\n")
     header, world, events = False, None, 0
     for number, line in enumerate(lines[:-1] if not lines[-1] else lines, 1):
         if len(line) > LINE:
-            return 6, "", "limit: line"
+            return 6, "limit: line", None
         if not line or line.startswith(b"#"):
             continue
         try:
@@ -200,10 +206,10 @@ def replay(script):
                 events += 1
                 play(world, events, number, line)
         except Refused as refused:
-            return 3, "", f"line {number}: {refused}"
+            return 3, f"line {number}: {refused}", None
         except Passed as passed:
-            return 6, "", f"limit: {passed}"
-    return 0, report(world), ""
+            return 6, f"limit: {passed}", None
+    return 0, "", world
 
 
 def main():

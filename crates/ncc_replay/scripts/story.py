@@ -180,10 +180,14 @@ class Member:
 
 
 class Run:
-    """The script's events in order: notes for each line and lane (members from 1, then sessions), and each message's lines."""
+    """The script's events in order: notes for each line and lane (members from 1, then sessions), and each message's lines.
 
-    def __init__(self, script, report):
-        self.script, self.report = script, report
+    `lines` are those in which the messages were sent, where that is known. Else it follows from the messages, and for proposals of
+    Bolt connections and sessions it is inferred.
+    """
+
+    def __init__(self, script, report, lines=None):
+        self.script, self.report, self.lines = script, report, lines
         self.size = script.cores + script.replicas
         self.members = [None] + [self.first_state(number) for number in range(1, self.size + 1)]
         self.start = [(member.role, member.term) for member in self.members[1:]]
@@ -236,7 +240,7 @@ class Run:
         """How many of the next messages, at most `most`, are of this sender and these kinds."""
         count = 0
         for source, _, words in self.report.sent[self.next_sent:self.next_sent + most]:
-            if source != sender or words[0] not in kinds:
+            if source != sender or words[0] not in kinds or self.lines and self.lines[self.next_sent + count] != self.line:
                 break
             count += 1
         return count
@@ -273,6 +277,9 @@ class Run:
             self.members[sender].length += 1
             self.send(sender, ("append",), self.script.cores - 1)
             self.commit(sender)
+        if self.lines:
+            self.take(self.lines[self.next_sent:].count(self.line))
+            return
         moved = self.open_questions() or self.verb in ("bytes", "up", "down", "pump")
         while moved and self.next_sent < len(self.report.sent):
             sender, _, words = self.report.sent[self.next_sent]

@@ -16,6 +16,7 @@ class RaftWorld(World):
     def __init__(self, *setup):
         super().__init__(*setup)
         self.envelopes, self.frame_bytes = [], 0
+        self.sent_in = []  # the line in which each message was sent
         self.at_limit(LIMIT)
 
     def at_limit(self, limit):
@@ -36,6 +37,7 @@ class RaftWorld(World):
         """The end of a member's step: its messages are sent, and the history is looked at."""
         for target, body in sent:
             self.envelopes.append(Envelope(number, target, body))
+            self.sent_in.append(self.line)
             self.frame_bytes += frame_size(body)
         if len(self.envelopes) > MOST_MESSAGES:
             raise Passed("messages")
