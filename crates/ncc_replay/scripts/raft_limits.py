@@ -11,8 +11,8 @@
     messages-passed one message more is not
     both-passed     4,000,000 messages, and a line past the millionth event too: the limit on events counts first
 
-The scripts are short of the limits on scripts, and what they ask for is much: whoever keeps each message needs 1 GiB for `frames`, and room for
-4,000,000 messages for `messages`. That is why these are no files, and why no check runs them by itself.
+The scripts themselves are within the limits on scripts, but they ask for much: whoever keeps each message needs 1 GiB for `frames`, and
+room for 4,000,000 messages for `messages`. That is why these are no files, and why no check runs them by itself.
 """
 import subprocess
 import sys

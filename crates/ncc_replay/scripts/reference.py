@@ -89,7 +89,8 @@ def report(world):
 
 # What stands behind a verb, a letter for each word; `*` is for bookmarks. `limit` stands in one place alone.
 FORMS = {"limit": [], "time": ["N"], "put": ["MWW*"], "get": ["MW*"], "apply": ["MP"], "open": ["M"], "bytes": ["NH"], "close": ["N"],
-         "timeout": ["M"], "beat": ["M"], "deliver": ["N"], "pull": ["MM"], "crash": ["M"], "session": ["N"], "work": ["NaWI", "NpWW", "NgW"], "up": ["NN"], "down": ["NN"], "pump": ["N", "NP"], "cut": ["N"]}
+         "timeout": ["M"], "beat": ["M"], "deliver": ["N"], "pull": ["MM"], "crash": ["M"],
+         "session": ["N"], "work": ["NaWI", "NpWW", "NgW"], "up": ["NN"], "down": ["NN"], "pump": ["N", "NP"], "cut": ["N"]}
 RANGES = {"N": (0, U64), "P": (1, U64), "M": (0, 255), "I": (-2 ** 63, 2 ** 63 - 1)}
 JOBS = {"a": b"add", "p": b"put", "g": b"get"}
 

@@ -42,7 +42,7 @@ class World:
     """What clusters of both kinds have: a clock, connections, sessions of drivers, and questions to members.
 
     A kind of cluster adds `at` (how many entries a member has applied), `leads`, `leader` (whom a member knows, or 0), `propose` (the
-    place and the term of a new entry, or a fact) and `found` (what became of a proposal whose place is applied).
+    place and the term of a new entry, or that the log is full), what a report shows of members and messages, and its own lines.
     """
 
     def __init__(self, cores, replicas, cluster, wait):
