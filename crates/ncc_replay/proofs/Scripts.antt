@@ -18,7 +18,7 @@ use Rattle.ncc_world.specs.declared.error.WorldError.TheVariants as w
 use Rattle.ncc_world.specs.declared.error.Which.{Which}
 use Rattle.ncc_world.specs.declared.error.Which.TheVariants.{Line as LineLimit, Events as EventsLimit}
 use Rattle.ncc_world.specs.Events.{MayHappen, CountsSome}
-use Rattle.ncc_world.specs.Happening.{ListRun, start_of, refusal, Happens}
+use Rattle.ncc_world.specs.Happening.{WorldRun, start_of, refusal, Happens}
 use Rattle.ncc_world.specs.World.{Kept, Stands, alive, past, is_refusal}
 use Rattle.ncc_replay.specs.Line.{Says, SaysNone, SaysCluster, FitsLimit, words_of, header, is_skipped}
 use Rattle.ncc_replay.specs.Script.{Script, whole, refused, limited, Lines, lines_of, Counts, Accepted, EventLines}
@@ -155,7 +155,7 @@ cluster_ends all rest number line cause c none g =
 -- at an event
 pub event_goes : (all rest : Lines) (count number : ℕ) (line : List ℕ) (world new : Kept) (event : Event) → Counts line
     → Says world.setup.cluster line event → count < max_events
-    → ((r : ListRun) → Stands world r → (t : ListRun) × Happens world.setup number event r t × Stands new t) → new.setup ≡ world.setup
+    → ((r : WorldRun) → Stands world r → (t : WorldRun) × Happens world.setup number event r t × Stands new t) → new.setup ≡ world.setup
     → Reached all ((number, line) ∷ rest) count world → Reached all rest (count + 1) new
 event_goes all rest count number line world new event c says few happens same g =
     let h = happens g.run g.stands in
@@ -181,7 +181,7 @@ event_goes all rest count number line world new event c says few happens same g 
 -- at an event that is one too many
 pub many_ends : (all rest : Lines) (count number : ℕ) (line : List ℕ) (world new : Kept) (event : Event) → Counts line
     → Says world.setup.cluster line event → max_events ≤ count
-    → ((r : ListRun) → Stands world r → (t : ListRun) × Happens world.setup number event r t × Stands new t)
+    → ((r : WorldRun) → Stands world r → (t : WorldRun) × Happens world.setup number event r t × Stands new t)
     → Reached all ((number, line) ∷ rest) count world → EndsAt all (limited EventsLimit)
 many_ends all rest count number line world new event c says many happens g =
     let h = happens g.run g.stands in
@@ -206,7 +206,7 @@ none_ends all rest count number line world cause c none g =
 
 -- at an event that the world refuses
 pub refused_ends : (all rest : Lines) (count number : ℕ) (line : List ℕ) (world : Kept) (event : Event) (error : WorldError) (cause : Cause)
-    → Counts line → Says world.setup.cluster line event → ((r : ListRun) → Stands world r → refusal r event ≡ Some error)
+    → Counts line → Says world.setup.cluster line event → ((r : WorldRun) → Stands world r → refusal r event ≡ Some error)
     → cause_of error ≡ Some cause → Reached all ((number, line) ∷ rest) count world → EndsAt all (refused number cause)
 refused_ends all rest count number line world event error cause c says refuses why g =
     let said : Script = record { setup = Some g.setup; events = g.done ++ [] } in (
@@ -237,7 +237,7 @@ not_past which e = cc
 pub error_ends : (all rest : Lines) (count number : ℕ) (line : List ℕ) (world : Kept) (event : Event) (error : WorldError)
     (result : ScriptError)
     → Counts line → Says world.setup.cluster line event
-    → ((r : ListRun) → Stands world r → IsTrue (is_refusal error) → refusal r event ≡ Some error)
+    → ((r : WorldRun) → Stands world r → IsTrue (is_refusal error) → refusal r event ≡ Some error)
     → ((which : Which) → error ≡ w.Limit which → world.standing ≡ past which)
     → ((at : ℕ) (cause : Cause) → result ≡ Bad at cause → (cause_of error ≡ Some cause) × (at ≡ number))
     → ((which : Which) → result ≡ Limit which → error ≡ w.Limit which)
@@ -263,7 +263,7 @@ line_ends all rest count number line world (Bad at cause) c bad limits g =
 -- ---- no line is left
 
 pub all_read : (all : Lines) (count : ℕ) (world : Kept) → Reached all [] count world
-    → (says : Script) × (t : Option ListRun) × ScriptLines all says t whole × IsRunOf (Some world) says t
+    → (says : Script) × (t : Option WorldRun) × ScriptLines all says t whole × IsRunOf (Some world) says t
 all_read all count world g =
     let said : Script = record { setup = Some g.setup; events = g.done ++ [] } in (
       said,
@@ -273,12 +273,12 @@ all_read all count world g =
     )
 
 pub no_cluster_read : (all : Lines) → GoesOn all [] Cluster
-    → (says : Script) × (t : Option ListRun) × ScriptLines all says t whole × IsRunOf None says t
+    → (says : Script) × (t : Option WorldRun) × ScriptLines all says t whole × IsRunOf None says t
 no_cluster_read all g =
     let none : Script = record { setup = None; events = [] } in (none, None, g none None whole ClusterLines.none_left, (refl, refl))
 
 pub no_header_read : (all : Lines) → GoesOn all [] Header
-    → (says : Script) × (t : Option ListRun) × ScriptLines all says t whole × IsRunOf None says t
+    → (says : Script) × (t : Option WorldRun) × ScriptLines all says t whole × IsRunOf None says t
 no_header_read all g =
     let none : Script = record { setup = None; events = [] } in (none, None, g none None whole ScriptLines.none_left, (refl, refl))
 

@@ -25,7 +25,7 @@ use Rattle.ncc_world.specs.declared.event.Event.{Event}
 use Rattle.ncc_world.specs.declared.event.Event.TheVariants as v
 use Rattle.ncc_world.specs.declared.seen.WorkSeen.{WorkSeen}
 use Rattle.ncc_world.specs.Setting.{cluster_of}
-use Rattle.ncc_world.specs.Happening.{ListRun, start_of, own, Steps, RunsOn}
+use Rattle.ncc_world.specs.Happening.{WorldRun, start_of, own, Steps, RunsOn}
 use Rattle.ncc_world.specs.Showing.{work_seen, works_of}
 use Rattle.ncc_replay.specs.Report.{result_fits, WorksFit}
 use Rattle.ncc_replay.proofs.DriverRows.{IsFine, AreFine, acts_fine, fine_behind}
@@ -202,7 +202,7 @@ module _ {S : Type 0} (C : Cluster S) where
 
 -- ---- a run over one list
 
-own_fit : (s : Setup) (line : ℕ) (e : Event) (r : ListRun) → Fit (cluster_of s) r → Fit (cluster_of s) (own s line e r)
+own_fit : (s : Setup) (line : ℕ) (e : Event) (r : WorldRun) → Fit (cluster_of s) r → Fit (cluster_of s) (own s line e r)
 unfolding own
 own_fit s line (v.Time to) r h = wakes_fit (cluster_of s) line 0 r.driving.drivers (record r { now = to }) h
 own_fit s line (v.Put member key value bookmarks) r h = feeds_fit (cluster_of s) (opened r member false) (length r.clients) _ h
@@ -218,13 +218,13 @@ own_fit s line (v.Down session count) r h = falls_fit (cluster_of s) line (sessi
 own_fit s line (v.Pump session requests) r h = h
 own_fit s line (v.Cut session) r h = cuts_fit (cluster_of s) line (session - 1) r (driver_at r (session - 1)) h
 
-steps_fit : (s : Setup) (line : ℕ) (e : Event) (r t : ListRun) → Steps s line e r t → Fit (cluster_of s) r → Fit (cluster_of s) t
+steps_fit : (s : Setup) (line : ℕ) (e : Event) (r t : WorldRun) → Steps s line e r t → Fit (cluster_of s) r → Fit (cluster_of s) t
 steps_fit s line (v.Down session count) r t steps h =
     subst (Fit (cluster_of s)) (sym steps.1) (own_fit s line (v.Down session count) r h)
 steps_fit s line (v.Pump session requests) r t steps h = pumps_fit (cluster_of s) line (session - 1) requests r t steps.1 h
 steps_fit s line e r t steps h = subst (Fit (cluster_of s)) (sym steps) (own_fit s line e r h)
 
-run_fit : (s : Setup) (es : List (ℕ × Event)) (r t : ListRun) → RunsOn s es r t → Fit (cluster_of s) r → Fit (cluster_of s) t
+run_fit : (s : Setup) (es : List (ℕ × Event)) (r t : WorldRun) → RunsOn s es r t → Fit (cluster_of s) r → Fit (cluster_of s) t
 run_fit s [] r t run h = subst (Fit (cluster_of s)) run h
 run_fit s (e ∷ es) r t run h =
     let happens = run.1 in
@@ -236,7 +236,7 @@ seen_fit [] h = tt
 seen_fit (e ∷ es) h = (h.0, seen_fit es h.1)
 
 -- of each run from its beginning
-pub works_fit : (s : Setup) (es : List (ℕ × Event)) (t : ListRun) → RunsOn s es (start_of s) t → WorksFit (works_of t)
+pub works_fit : (s : Setup) (es : List (ℕ × Event)) (t : WorldRun) → RunsOn s es (start_of s) t → WorksFit (works_of t)
 works_fit s es t run =
     All-from_recursion (λ (w : WorkSeen). result_fits w.result ≡ true) (works_of t)
     (seen_fit t.driving.ended (run_fit s es (start_of s) t run tt))

@@ -1,5 +1,8 @@
 pub mod Begun
+pub mod Leading
 pub mod Listed
+pub mod Rafted
+pub mod Seated
 pub mod Settling
 pub mod Silent
 pub mod Stepping

@@ -1,5 +1,5 @@
 -- What sessions of drivers do tells nobody a fact, and is made of small things.
-use Rattle.std.proofs.Common.{◌≡◌, ℕ, suc, ◌-◌, Bool, true, false, List, [], ◌∷◌, length, Option, Some, None, refl, ◌∙◌}
+use Rattle.std.proofs.Common.{◌≡◌, ℕ, suc, ◌-◌, ◌≤◌, Bool, true, false, List, [], ◌∷◌, length, Option, Some, None, refl, ◌∙◌}
 use Rattle.std.specs.Prelude.{slice_get, if◌then◌else◌}
 use Rattle.ncc_driver.specs.declared.action.Action.{Action}
 use Rattle.ncc_driver.specs.declared.action.Action.TheVariants.{Connect, Send, Close, Sleep, Receive, Finish}
@@ -17,6 +17,7 @@ use Rattle.ncc_clients.specs.Drives.{parts, ends, does_by, does, does_all, more,
 use Rattle.ncc_clients.specs.Drives.{told_input, with_input, makes, begins_by, begins, feeds_some, goes_up, lifts_by, lifts, comes_down, waits_above}
 use Rattle.ncc_clients.specs.Drives.{falls_by, falls, cuts_by, cuts, is_due, woken, wakes_from, wakes_all}
 use Rattle.ncc_clients.specs.Drives.{rises, descends, lift_to, all_bytes}
+use Rattle.ncc_clients.proofs.Named.{named_some}
 use Rattle.ncc_world.proofs.Settling.{path_of, path_through}
 
 module _ {S : Type 0} (C : Cluster S) where
@@ -60,11 +61,12 @@ module _ {S : Type 0} (C : Cluster S) where
     go None e = stays r
     go (Some c) e = one c e c.closed refl
 
-  joins_leads : (r : Run S) (k : ℕ) (d : Driver) (o : Option ℕ) → Leads r (joins_named k d r o)
-  joins_leads r k d None = stays r
-  joins_leads r k d (Some member) =
+  joins_leads : (r : Run S) (k : ℕ) (d : Driver) (o : Option ℕ) → ((member : ℕ) → o ≡ Some member → 1 ≤ member)
+      → Leads r (joins_named k d r o)
+  joins_leads r k d None some = stays r
+  joins_leads r k d (Some member) some =
       let s = opened r member true in
-      then_ r s (joins k d r member) (small r s (Opens r member true) refl) (drives s (joins k d r member).driving)
+      then_ r s (joins k d r member) (small r s (Opens r member true (some member refl)) refl) (drives s (joins k d r member).driving)
 
   parts_leads : (r : Run S) (k : ℕ) (d : Driver) (o : Option Link) → Leads r (parts C k d r o)
   parts_leads r k d None = stays r
@@ -77,7 +79,7 @@ module _ {S : Type 0} (C : Cluster S) where
 
   module _ (line k : ℕ) where
     action_leads : (r : Run S) (d : Driver) (a : Action) → Leads r (does_by C line k r d a)
-    action_leads r d (Connect address) = joins_leads r k d (member_named C address)
+    action_leads r d (Connect address) = joins_leads r k d (member_named C address) (named_some C address)
     action_leads r d (Send bytes) = sets r k _
     action_leads r d Close = parts_leads r k d d.link
     action_leads r d (Sleep until) = sets r k _

@@ -2,7 +2,7 @@ use Rattle.std.proofs.Common.{◌∙◌, ap, sym, refl, ℕ, Bool, true, false, 
 use Rattle.std.specs.Prelude.{nat_le, ◌==◌}
 use Rattle.ncc_world.specs.declared.error.WorldError.TheVariants.{BackInTime, NoConn, NoMember, NoSession}
 use Rattle.ncc_world.specs.Happening.{refusal, unless}
-use Rattle.ncc_world.specs.Parts.{drivers_in}
+use Rattle.ncc_world.specs.Parts.{drivers_in, run_in}
 use Rattle.ncc_world.proofs.Rooms.{eq_yes, eq_no}
 use Rattle.ncc_world.proofs.Stepping.{has_counted, refused_apply, refusing}
 use Rattle.ncc_world.proofs.running.Running.refusal.Goals as goal
@@ -29,21 +29,21 @@ returns-in-Get c = record {
 pub returns-then-not-is_member : goal.returns-then-not-is_member
 returns-then-not-is_member c = record {
   exact = λ r k.
-      refused_apply r c.in-Apply.member c.in-Apply.count false (c.in-Apply.member == 1) (c.if-not-is_member.ensures.exact r k.runs_as) refl
+      refused_apply c.args.setup.now (run_in c.args.self.now) r c.in-Apply.member c.in-Apply.count false (c.in-Apply.member == 1) k.runs_as (c.if-not-is_member.ensures.exact r k.runs_as) refl
       ∙ ap (refusal r) (sym c.in-Apply.is);
 }
 
 pub returns-then-member-eq1 : goal.returns-then-member-eq1
 returns-then-member-eq1 c = record {
   exact = λ r k.
-      refused_apply r c.in-Apply.member c.in-Apply.count true true (c.if-not-is_member.ensures.exact r k.runs_as)
+      refused_apply c.args.setup.now (run_in c.args.self.now) r c.in-Apply.member c.in-Apply.count true true k.runs_as (c.if-not-is_member.ensures.exact r k.runs_as)
       (sym (eq_yes c.in-Apply.member 1 c.if-member-eq1.true)) ∙ ap (refusal r) (sym c.in-Apply.is);
 }
 
 pub returns-else-member-eq1 : goal.returns-else-member-eq1
 returns-else-member-eq1 c = record {
   exact = λ r k.
-      refused_apply r c.in-Apply.member c.in-Apply.count true false (c.if-not-is_member.ensures.exact r k.runs_as)
+      refused_apply c.args.setup.now (run_in c.args.self.now) r c.in-Apply.member c.in-Apply.count true false k.runs_as (c.if-not-is_member.ensures.exact r k.runs_as)
       (sym (eq_no c.in-Apply.member 1 c.if-member-eq1.false)) ∙ ap (refusal r) (sym c.in-Apply.is);
 }
 
