@@ -62,16 +62,18 @@ one_known line a b (inr (inr f)) (inr (inr g)) = f.0 ∙ sym g.0
 one_cause : (cluster : ℕ) (line : List ℕ) (a b : Cause) → SaysNone cluster line a → SaysNone cluster line b → a ≡ b
 one_cause cluster line a b f g = one_known line a b (known line a f.cause_is) (known line b g.cause_is)
 
-one_refusal : (r : WorldRun) (event other : Event) (a b : Cause) → event ≡ other → IsRefusedFor r event a → IsRefusedFor r other b → a ≡ b
-one_refusal r event other a b e f g =
-    let errors : Some f.error ≡ Some g.error = sym f.refuses ∙ (ap (refusal r) e ∙ g.refuses) in
+one_refusal : (s : Setup) (r : WorldRun) (event other : Event) (a b : Cause) → event ≡ other → IsRefusedFor s r event a
+    → IsRefusedFor s r other b → a ≡ b
+one_refusal s r event other a b e f g =
+    let errors : Some f.error ≡ Some g.error = sym f.refuses ∙ (ap (refusal s r) e ∙ g.refuses) in
     let same : f.error ≡ g.error = cc in
     let causes : Some a ≡ Some b = sym f.cause_is ∙ (ap cause_of same ∙ g.cause_is) in
     cc
 
-allowed_refused : (r : WorldRun) (event other : Event) (a : Cause) → event ≡ other → refusal r event ≡ None → IsRefusedFor r other a → ⊥
-allowed_refused r event other a e f g =
-    let none : None ≡ Some g.error = sym f ∙ (ap (refusal r) e ∙ g.refuses) in
+allowed_refused : (s : Setup) (r : WorldRun) (event other : Event) (a : Cause) → event ≡ other → refusal s r event ≡ None
+    → IsRefusedFor s r other a → ⊥
+allowed_refused s r event other a e f g =
+    let none : None ≡ Some g.error = sym f ∙ (ap (refusal s r) e ∙ g.refuses) in
     cc
 
 -- ---- the same lines end in one way
@@ -144,14 +146,14 @@ one_end_events one s n r ls es fs t u end other (EventLines.not_allowed na ra nu
       events = refl;
       runs = refl;
       ends = ap
-          (refused numbera) (one_refusal ra eventa eventb causea causeb (says_one s.cluster linea eventa eventb saysa saysb) noa nob);
+          (refused numbera) (one_refusal s ra eventa eventb causea causeb (says_one s.cluster linea eventa eventb saysa saysb) noa nob);
     }
 one_end_events one s n r ls es fs t u end other (EventLines.not_allowed na ra numbera linea lsa eventa causea ca saysa noa)
-    (EventLines.many nb rb numberb lineb lsb eventb ab mb) = absurd (allowed_refused ra eventb eventa causea
+    (EventLines.many nb rb numberb lineb lsb eventb ab mb) = absurd (allowed_refused s ra eventb eventa causea
     (says_one s.cluster linea eventb eventa ab.says saysa) ab.allowed noa)
 one_end_events one s n r ls es fs t u end other (EventLines.not_allowed na ra numbera linea lsa eventa causea ca saysa noa)
     (EventLines.happens nb rb mb numberb lineb lsb eventb esb tb endb ab fewb didb moreb) = absurd
-    (allowed_refused ra eventb eventa causea (says_one s.cluster linea eventb eventa ab.says saysa) ab.allowed noa)
+    (allowed_refused s ra eventb eventa causea (says_one s.cluster linea eventb eventa ab.says saysa) ab.allowed noa)
 one_end_events one s n r ls es fs t u end other (EventLines.many na ra numbera linea lsa eventa aa ma)
     (EventLines.long nb rb numberb lineb lsb hb) = absurd (true_false (is_long linea) hb aa.counts.short)
 one_end_events one s n r ls es fs t u end other (EventLines.many na ra numbera linea lsa eventa aa ma)
@@ -159,7 +161,7 @@ one_end_events one s n r ls es fs t u end other (EventLines.many na ra numbera l
 one_end_events one s n r ls es fs t u end other (EventLines.many na ra numbera linea lsa eventa aa ma)
     (EventLines.says_none nb rb numberb lineb lsb causeb cb noneb) = absurd (noneb.none eventa aa.says)
 one_end_events one s n r ls es fs t u end other (EventLines.many na ra numbera linea lsa eventa aa ma)
-    (EventLines.not_allowed nb rb numberb lineb lsb eventb causeb cb saysb nob) = absurd (allowed_refused ra eventa eventb causeb
+    (EventLines.not_allowed nb rb numberb lineb lsb eventb causeb cb saysb nob) = absurd (allowed_refused s ra eventa eventb causeb
     (says_one s.cluster linea eventa eventb aa.says saysb) aa.allowed nob)
 one_end_events one s n r ls es fs t u end other (EventLines.many na ra numbera linea lsa eventa aa ma)
     (EventLines.many nb rb numberb lineb lsb eventb ab mb) = record { events = refl; runs = refl; ends = refl }
@@ -172,7 +174,7 @@ one_end_events one s n r ls es fs t u end other (EventLines.happens na ra ma num
 one_end_events one s n r ls es fs t u end other (EventLines.happens na ra ma numbera linea lsa eventa esa ta enda aa fewa dida morea)
     (EventLines.says_none nb rb numberb lineb lsb causeb cb noneb) = absurd (noneb.none eventa aa.says)
 one_end_events one s n r ls es fs t u end other (EventLines.happens na ra ma numbera linea lsa eventa esa ta enda aa fewa dida morea)
-    (EventLines.not_allowed nb rb numberb lineb lsb eventb causeb cb saysb nob) = absurd (allowed_refused ra eventa eventb causeb
+    (EventLines.not_allowed nb rb numberb lineb lsb eventb causeb cb saysb nob) = absurd (allowed_refused s ra eventa eventb causeb
     (says_one s.cluster linea eventa eventb aa.says saysb) aa.allowed nob)
 one_end_events one s n r ls es fs t u end other (EventLines.happens na ra ma numbera linea lsa eventa esa ta enda aa fewa dida morea)
     (EventLines.many nb rb numberb lineb lsb eventb ab mb) = absurd (omega (arith, fewa, mb))

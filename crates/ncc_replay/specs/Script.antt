@@ -73,16 +73,16 @@ cause_of (w.Limit which) = None
 cause_of w.Memory = None
 
 -- the world refuses the event for this cause
-pub record IsRefusedFor (r : WorldRun) (event : Event) (cause : Cause) : Type 0 where
+pub record IsRefusedFor (s : Setup) (r : WorldRun) (event : Event) (cause : Cause) : Type 0 where
   pub error : WorldError
-  pub refuses : refusal r event ≡ Some error
+  pub refuses : refusal s r event ≡ Some error
   pub cause_is : cause_of error ≡ Some cause
 
 -- the line says this event, and the run so far allows it
 pub record Accepted (s : Setup) (r : WorldRun) (line : List ℕ) (event : Event) : Type 0 where
   pub counts : Counts line
   pub says : Says s.cluster line event
-  pub allowed : refusal r event ≡ None
+  pub allowed : refusal s r event ≡ None
 
 -- ---- the lines behind the `cluster` line, where so many were events and the run stands so: the events that they say, and how the run
 -- stands where they end
@@ -95,7 +95,7 @@ pub data EventLines (s : Setup) : ℕ → WorldRun → Lines → List (ℕ × Ev
   says_none : (n : ℕ) (r : WorldRun) (number : ℕ) (line : List ℕ) (ls : Lines) (cause : Cause) → Counts line → SaysNone s.cluster line cause
       → EventLines s n r ((number, line) ∷ ls) [] r (refused number cause)
   not_allowed : (n : ℕ) (r : WorldRun) (number : ℕ) (line : List ℕ) (ls : Lines) (event : Event) (cause : Cause) → Counts line
-      → Says s.cluster line event → IsRefusedFor r event cause → EventLines s n r ((number, line) ∷ ls) [] r (refused number cause)
+      → Says s.cluster line event → IsRefusedFor s r event cause → EventLines s n r ((number, line) ∷ ls) [] r (refused number cause)
   many : (n : ℕ) (r : WorldRun) (number : ℕ) (line : List ℕ) (ls : Lines) (event : Event) → Accepted s r line event → max_events ≤ n
       → EventLines s n r ((number, line) ∷ ls) [] r (limited EventsLimit)
   happens : (n : ℕ) (r m : WorldRun) (number : ℕ) (line : List ℕ) (ls : Lines) (event : Event) (es : List (ℕ × Event)) (t : WorldRun)

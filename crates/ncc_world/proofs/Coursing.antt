@@ -38,10 +38,12 @@ use Rattle.ncc_clients.proofs.Smalls.{small_kept}
 use Rattle.ncc_clients.proofs.Courses.{deed_path}
 use Rattle.ncc_clients.proofs.Splitting.{lifts_split, fronts_are_taken}
 use Rattle.ncc_clients.proofs.Waking.{turns_are_courses, wakes_are_courses}
+use Rattle.ncc_clients.proofs.Ending.{ends_are_courses}
 use Rattle.ncc_clients.proofs.Reading.{sessions_read}
 use Rattle.ncc_world.specs.declared.setup.Setup.{Setup}
 use Rattle.ncc_world.specs.declared.event.Event.{Event}
-use Rattle.ncc_world.specs.declared.event.Event.TheVariants.{Time, Put, Get, Apply, Open, Bytes, Close, Session, Work, Up, Down, Pump, Cut}
+use Rattle.ncc_world.specs.declared.event.Event.TheVariants.{Time, Put, Get, Apply, Timeout, Beat, Deliver, Pull, Crash, Open, Bytes, Close}
+use Rattle.ncc_world.specs.declared.event.Event.TheVariants.{Session, Work, Up, Down, Pump, Cut}
 use Rattle.ncc_world.specs.declared.event.Job.{Job}
 use Rattle.ncc_world.specs.declared.event.Job.TheVariants.{Add}
 use Rattle.ncc_world.specs.declared.event.Job.TheVariants as job
@@ -49,7 +51,10 @@ use Rattle.ncc_world.specs.declared.error.WorldError.TheVariants.{NoMember, NoCo
 use Rattle.ncc_world.specs.Setting.{IsSetup, cluster_of, MovesTo, Seats, seats_of}
 use Rattle.ncc_world.specs.Events.{MayHappen, MayBegin}
 use Rattle.ncc_world.specs.Requests.{client_bytes, put_request, get_request}
-use Rattle.ncc_world.specs.Happening.{WorldRun, start_of, unless, refusal, lagged, is_printed, is_linked, is_session, is_busy_at, config_of, meant, asks, own}
+use Rattle.ncc_world.specs.Happening.{WorldRun, start_of, refusal, lagged, is_printed, is_linked, is_session, is_busy_at, config_of, meant, asks, own}
+use Rattle.ncc_raft.specs.Member as raft
+use Rattle.ncc_world.specs.Rafts.{unless, stepping, delivered, pulled, restarted}
+use Rattle.ncc_world.proofs.Rafting.{not_refused, times_out, beats, delivers, pulls, restarts}
 use Rattle.ncc_world.specs.Happening.{ComesAsBytes, Steps, Happens, RunsOn}
 use Rattle.ncc_world.specs.Headline.{AllMayHappen}
 use Rattle.ncc_world.proofs.Settling.{path_through}
@@ -57,7 +62,7 @@ use Rattle.ncc_world.proofs.Sending.{word_fits}
 use Rattle.ncc_world.proofs.Keeping.{get_there}
 use Rattle.ncc_world.proofs.Listed.{list_keeps_four}
 use Rattle.ncc_world.proofs.Bounding.{has_numbers}
-use Rattle.ncc_world.proofs.Moments.{lags_at, member_some, not_refused}
+use Rattle.ncc_world.proofs.Moments.{lags_at, member_some}
 
 -- ---- what sessions and works are made of has a spelling
 
@@ -138,8 +143,8 @@ all_three true true false e = (refl, refl)
 all_three true false c e = absurd (cc)
 all_three false b c e = absurd (cc)
 
-open_made : (r : WorldRun) (conn : ℕ) (bytes : List ℕ) → refusal r (Bytes conn bytes) ≡ None → IsNoLink r (conn - 1 + 1)
-open_made r conn bytes e =
+open_made : (s : Setup) (r : WorldRun) (conn : ℕ) (bytes : List ℕ) → refusal s r (Bytes conn bytes) ≡ None → IsNoLink r (conn - 1 + 1)
+open_made s r conn bytes e =
     let h = all_three (nat_le 1 conn) (is_printed (slice_get r.clients (conn - 1))) (is_linked r conn) (not_refused _ NoConn e) in
     let low : 1 ≤ conn = leb-true 1 conn h.0 in
     let back : conn ≡ conn - 1 + 1 = omega (arith, low) in
@@ -282,7 +287,11 @@ module _ (known : Known) (says : DriverSays) (s : Setup) (setup : IsSetup s) whe
         And r (descends C line k r) t (Falls line r k all_bytes fronts_are_taken.1 (come r (driver_at r k) b.0))
         (pumps_course limit (descends C line k r) t p b.1)
 
-  own_course : (line : ℕ) (event : Event) (r t : WorldRun) → Kept C r → refusal r event ≡ None → MayHappen s.cluster event
+  moves_course : (r t : WorldRun) (members : Seats) → MovesTo s r.members members → t ≡ moved C r members → Course C r t
+  moves_course r t members m h =
+      subst (λ x. Course C r x) (sym h) (one r (moved C r members) (Plain r (moved C r members) (Moves r members m) tt))
+
+  own_course : (line : ℕ) (event : Event) (r t : WorldRun) → Kept C r → refusal s r event ≡ None → MayHappen s.cluster event
       → Steps s line event r t → Course C r t
   unfolding own
   own_course line (Time to) r t k e may h =
@@ -297,11 +306,22 @@ module _ (known : Known) (says : DriverSays) (s : Setup) (setup : IsSetup s) whe
       let u : Seats = lagged r.members member count in
       let a : MovesTo s r.members u = lags_at s r member count e in
       subst (λ x. Course C r x) (sym h) (one r (moved C r u) (Plain r (moved C r u) (Moves r u a) tt))
+  own_course line (Timeout member) r t k e may h =
+      moves_course r t (stepping s r.members member raft.Timeout) (times_out s r.members member e) h
+  own_course line (Beat member) r t k e may h =
+      moves_course r t (stepping s r.members member raft.Beat) (beats s r.members member e) h
+  own_course line (Deliver message) r t k e may h =
+      moves_course r t (delivered s r.members message) (delivers s r.members message e) h
+  own_course line (Pull replica core) r t k e may h =
+      moves_course r t (pulled s r.members replica core) (pulls s r.members replica core e) h
+  own_course line (Crash member) r t k e may h =
+      subst (λ x. Course C r x) (sym h)
+      (ends_are_courses C line member (restarted s r.members member) r (restarts s r.members member e))
   own_course line (Open member) r t k e may h =
       let u : WorldRun = opened r member true in
       subst (λ x. Course C r x) (sym h) (one r u (Plain r u (Opens r member true (member_some r member NoMember e)) tt))
   own_course line (Bytes conn bytes) r t k e may h =
-      subst (λ x. Course C r x) (sym h) (feeds_course r (conn - 1) bytes (open_made r conn bytes e))
+      subst (λ x. Course C r x) (sym h) (feeds_course r (conn - 1) bytes (open_made s r conn bytes e))
   own_course line (Close conn) r t k e may h = subst (λ x. Course C r x) (sym h) (closes_course r (conn - 1))
   own_course line (Session seed) r t k e may h =
       let config = config_of s seed in

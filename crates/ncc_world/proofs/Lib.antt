@@ -2,6 +2,7 @@ pub mod Begun
 pub mod Leading
 pub mod Listed
 pub mod Rafted
+pub mod Rafting
 pub mod Seated
 pub mod Settling
 pub mod Silent

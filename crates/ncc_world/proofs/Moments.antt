@@ -13,15 +13,19 @@ use Rattle.ncc_clients.specs.Laws.{TurnsAreSmall, OneWay}
 use Rattle.ncc_bolt.specs.declared.message.Request.{Request}
 use Rattle.ncc_world.specs.declared.setup.Setup.{Setup}
 use Rattle.ncc_world.specs.declared.event.Event.{Event}
-use Rattle.ncc_world.specs.declared.event.Event.TheVariants.{Time, Put, Get, Apply, Open, Bytes, Close, Session, Work, Up, Down, Pump, Cut}
+use Rattle.ncc_world.specs.declared.event.Event.TheVariants.{Time, Put, Get, Apply, Timeout, Beat, Deliver, Pull, Crash, Open, Bytes, Close}
+use Rattle.ncc_world.specs.declared.event.Event.TheVariants.{Session, Work, Up, Down, Pump, Cut}
 use Rattle.ncc_world.specs.declared.error.WorldError.{WorldError}
 use Rattle.ncc_world.specs.declared.error.WorldError.TheVariants.{NoMember, WrongRole}
 use Rattle.ncc_world.specs.Setting.{Lists, Seats, over_list, over_raft, lists_of, MovesTo, cluster_of, lagging}
 use Rattle.ncc_world.specs.Requests.{client_bytes, put_request, get_request}
-use Rattle.ncc_world.specs.Happening.{WorldRun, start_of, unless, is_member, refuses_apply, refusal, lagged, config_of, meant, asks, own, Steps, Passes, Happens, RunsOn, Within}
+use Rattle.ncc_world.specs.Happening.{WorldRun, start_of, is_member, refuses_apply, refusal, lagged, config_of, meant, asks, own, Steps, Passes, Happens, RunsOn, Within}
+use Rattle.ncc_raft.specs.Member as raft
+use Rattle.ncc_world.specs.Rafts.{unless, stepping, delivered, pulled, restarted}
+use Rattle.ncc_world.proofs.Rafting.{not_refused, times_out, beats, delivers, pulls, restarts}
 use Rattle.ncc_world.proofs.Settling.{SameSteps, path_through, turns_on}
 use Rattle.ncc_world.proofs.Silent.{Leads, stays, small, then_, feeds_leads, closes_leads, makes_leads, begins_leads, lifts_leads, falls_leads}
-use Rattle.ncc_world.proofs.Silent.{cuts_leads, wakes_leads}
+use Rattle.ncc_world.proofs.Silent.{cuts_leads, wakes_leads, ends_leads}
 use Rattle.ncc_world.proofs.Pumping.{pumps_path, pumping_path, one_pump, pumping_on}
 
 -- ---- the own step of an event
@@ -32,10 +36,6 @@ asks_leads s r member request some =
     let t : WorldRun = opened r member false in
     then_ C r t (asks s r member request) (small C r t (Opens r member false some) refl)
     (feeds_leads C t (length r.clients) (client_bytes request))
-
-pub not_refused : (b : Bool) (error : WorldError) → unless b error ≡ None → b ≡ true
-not_refused true error e = refl
-not_refused false error e = absurd (cc)
 
 -- a member that is there is numbered from 1
 pub member_some : (r : WorldRun) (member : ℕ) (error : WorldError) → unless (is_member r member) error ≡ None → 1 ≤ member
@@ -77,11 +77,11 @@ lags_among s (over_list lists) member count e =
     )
 lags_among s (over_raft fleet) member count e = absurd (cc)
 
-pub lags_at : (s : Setup) (r : WorldRun) (member count : ℕ) → refusal r (Apply member count) ≡ None
+pub lags_at : (s : Setup) (r : WorldRun) (member count : ℕ) → refusal s r (Apply member count) ≡ None
     → MovesTo s r.members (lagged r.members member count)
 lags_at s r member count e = lags_among s r.members member count e
 
-pub own_leads : (s : Setup) (line : ℕ) (event : Event) (r : WorldRun) → refusal r event ≡ None
+pub own_leads : (s : Setup) (line : ℕ) (event : Event) (r : WorldRun) → refusal s r event ≡ None
     → Leads (cluster_of s) r (own s line event r)
 unfolding own
 own_leads s line (Time to) r e =
@@ -96,6 +96,20 @@ own_leads s line (Get member key bookmarks) r e =
 own_leads s line (Apply member count) r e =
     small (cluster_of s) r (own s line (Apply member count) r)
     (Moves r (lagged r.members member count) (lags_at s r member count e)) refl
+own_leads s line (Timeout member) r e =
+    small (cluster_of s) r (own s line (Timeout member) r)
+    (Moves r (stepping s r.members member raft.Timeout) (times_out s r.members member e)) refl
+own_leads s line (Beat member) r e =
+    small (cluster_of s) r (own s line (Beat member) r)
+    (Moves r (stepping s r.members member raft.Beat) (beats s r.members member e)) refl
+own_leads s line (Deliver message) r e =
+    small (cluster_of s) r (own s line (Deliver message) r)
+    (Moves r (delivered s r.members message) (delivers s r.members message e)) refl
+own_leads s line (Pull replica core) r e =
+    small (cluster_of s) r (own s line (Pull replica core) r)
+    (Moves r (pulled s r.members replica core) (pulls s r.members replica core e)) refl
+own_leads s line (Crash member) r e =
+    ends_leads (cluster_of s) line member (restarted s r.members member) r (restarts s r.members member e)
 own_leads s line (Open member) r e =
     small (cluster_of s) r (opened r member true) (Opens r member true (member_some r member NoMember e)) refl
 own_leads s line (Bytes conn bytes) r e = feeds_leads (cluster_of s) r (conn - 1) bytes
@@ -125,6 +139,11 @@ kind_of (Put member key value bookmarks) =
     plain (Put member key value bookmarks) (λ s line r t h. h) (λ s line r m h. h) (λ s line r m h. h)
 kind_of (Get member key bookmarks) = plain (Get member key bookmarks) (λ s line r t h. h) (λ s line r m h. h) (λ s line r m h. h)
 kind_of (Apply member count) = plain (Apply member count) (λ s line r t h. h) (λ s line r m h. h) (λ s line r m h. h)
+kind_of (Timeout member) = plain (Timeout member) (λ s line r t h. h) (λ s line r m h. h) (λ s line r m h. h)
+kind_of (Beat member) = plain (Beat member) (λ s line r t h. h) (λ s line r m h. h) (λ s line r m h. h)
+kind_of (Deliver message) = plain (Deliver message) (λ s line r t h. h) (λ s line r m h. h) (λ s line r m h. h)
+kind_of (Pull replica core) = plain (Pull replica core) (λ s line r t h. h) (λ s line r m h. h) (λ s line r m h. h)
+kind_of (Crash member) = plain (Crash member) (λ s line r t h. h) (λ s line r m h. h) (λ s line r m h. h)
 kind_of (Open member) = plain (Open member) (λ s line r t h. h) (λ s line r m h. h) (λ s line r m h. h)
 kind_of (Bytes conn bytes) = plain (Bytes conn bytes) (λ s line r t h. h) (λ s line r m h. h) (λ s line r m h. h)
 kind_of (Close conn) = plain (Close conn) (λ s line r t h. h) (λ s line r m h. h) (λ s line r m h. h)
@@ -136,7 +155,7 @@ kind_of (Pump session requests) = pumps session requests
 kind_of (Cut session) = plain (Cut session) (λ s line r t h. h) (λ s line r m h. h) (λ s line r m h. h)
 
 steps_path : (s : Setup) → TurnsAreSmall (cluster_of s) → (line : ℕ) (event : Event) → Kind event → (r t : WorldRun)
-    → refusal r event ≡ None → Steps s line event r t → Path (cluster_of s) r t
+    → refusal s r event ≡ None → Steps s line event r t → Path (cluster_of s) r t
 steps_path s small_ line _ (pumps session requests) r t e h = pumps_path (cluster_of s) small_ line (session - 1) requests r t h.1
 steps_path s small_ line event (plain _ same out in_) r t e h =
     subst (λ u. Path (cluster_of s) r u) (sym (same s line r t h)) (own_leads s line event r e).path
@@ -148,7 +167,7 @@ one_step s way small_ line _ (pumps session requests) r t u h g =
 one_step s way small_ line event (plain _ same out in_) r t u h g = same s line r t h ∙ sym (same s line r u g)
 
 passes_path : (s : Setup) → TurnsAreSmall (cluster_of s) → (line : ℕ) (event : Event) → Kind event → (r m : WorldRun)
-    → refusal r event ≡ None → Passes s line event r m → Path (cluster_of s) r m
+    → refusal s r event ≡ None → Passes s line event r m → Path (cluster_of s) r m
 passes_path s small_ line _ (pumps session requests) r m e h = go h.1 where
   C : Cluster Seats
   C = cluster_of s

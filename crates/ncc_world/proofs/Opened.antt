@@ -7,7 +7,8 @@ use Rattle.ncc_world.specs.declared.setup.Setup.{Setup}
 use Rattle.ncc_world.specs.declared.error.WorldError.{WorldError}
 use Rattle.ncc_world.specs.declared.seen.ConnSeen.{ConnSeen}
 use Rattle.ncc_world.specs.declared.served.Served.{Served}
-use Rattle.ncc_world.specs.Happening.{WorldRun, is_printed, is_linked, is_open_made, unless}
+use Rattle.ncc_world.specs.Happening.{WorldRun, is_printed, is_linked, is_open_made}
+use Rattle.ncc_world.specs.Rafts.{unless}
 use Rattle.ncc_world.specs.World.{AreClients, KeptRun, RunsAs}
 
 -- what the connections show of that

@@ -10,14 +10,15 @@ use Rattle.ncc_driver.specs.Session.{Begun}
 use Rattle.ncc_driver.specs.Work.{Job}
 use Rattle.ncc_clients.specs.Members.{Cluster}
 use Rattle.ncc_clients.specs.Links.{Link, Driver, Driving, Ended, Lifted, Parcel, bytes_in}
-use Rattle.ncc_clients.specs.Run.{Run, Client, opened, fed, closed_at}
+use Rattle.ncc_clients.specs.Run.{Run, Client, opened, fed, closed_at, moved}
 use Rattle.ncc_clients.specs.Moment.{Small, Opens, Feeds, Drives, Closes, Path, Here}
 use Rattle.ncc_clients.specs.Drives.{driver_at, with_driver, feeds, feeds_one, closes, closes_one, member_named, joins, joins_named}
 use Rattle.ncc_clients.specs.Drives.{parts, ends, does_by, does, does_all, more, knows, does_more, joined, last_of, follows_on, turns_to}
 use Rattle.ncc_clients.specs.Drives.{told_input, with_input, makes, begins_by, begins, feeds_some, goes_up, lifts_by, lifts, comes_down, waits_above}
 use Rattle.ncc_clients.specs.Drives.{falls_by, falls, cuts_by, cuts, is_due, woken, wakes_from, wakes_all}
-use Rattle.ncc_clients.specs.Drives.{rises, descends, lift_to, all_bytes}
+use Rattle.ncc_clients.specs.Drives.{rises, descends, lift_to, all_bytes, closes_all, hangs_on, loses_from, ends_at}
 use Rattle.ncc_clients.proofs.Named.{named_some}
+use Rattle.ncc_clients.proofs.Ending.{ends_are_courses, courses_are_paths}
 use Rattle.ncc_world.proofs.Settling.{path_of, path_through}
 
 module _ {S : Type 0} (C : Cluster S) where
@@ -189,3 +190,26 @@ module _ {S : Type 0} (C : Cluster S) where
 
     pub descends_leads : (k : ℕ) (r : Run S) → Leads r (descends C line k r)
     descends_leads k r = falls_leads line k r all_bytes (driver_at r k)
+
+    loses_first : (k : ℕ) (lost : Option Link → Bool) (ds : List Driver) (r : Run S) (b : Bool)
+        → ((m : Run S) → Leads m (loses_from C line (suc k) lost ds m))
+        → Leads r (loses_from C line (suc k) lost ds (if b then cuts C line k r (driver_at r k) else r))
+    loses_first k lost ds r true h =
+        let m = cuts C line k r (driver_at r k) in
+        then_ r m (loses_from C line (suc k) lost ds m) (cuts_leads line k r (driver_at r k)) (h m)
+    loses_first k lost ds r false h = h r
+
+    losing : (k : ℕ) (lost : Option Link → Bool) (ds : List Driver) (r : Run S) → Leads r (loses_from C line k lost ds r)
+    unfolding loses_from
+    losing k lost [] r = stays r
+    losing k lost (d ∷ ds) r = loses_first k lost ds r (lost d.link) (λ m. losing (suc k) lost ds m)
+
+    -- a member ends and starts again: nobody is told a fact
+    pub ends_leads : (member : ℕ) (members : S) (r : Run S) → C.Restarts r.members member members → Leads r (ends_at C line member members r)
+    ends_leads member members r h =
+        let t = moved C (closes_all C member r) members in
+        let told = (losing 0 (hangs_on C member r) r.driving.drivers t).told in
+        record {
+          path = courses_are_paths C r (ends_at C line member members r) (ends_are_courses C line member members r h);
+          told = told;
+        }

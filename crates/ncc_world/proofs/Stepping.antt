@@ -12,11 +12,12 @@ use Rattle.ncc_clients.specs.Links.{Driver, Driving, Link}
 use Rattle.ncc_clients.specs.Run.{ticked}
 use Rattle.ncc_world.specs.declared.setup.Setup.{Setup}
 use Rattle.ncc_world.specs.declared.error.WorldError.{WorldError}
-use Rattle.ncc_world.specs.declared.error.WorldError.TheVariants.{BackInTime, Busy, NoMember, NoSession, WrongRole}
+use Rattle.ncc_world.specs.declared.error.WorldError.TheVariants.{BackInTime, Busy, NoMember, NoSession, WrongRole, WrongWorld}
 use Rattle.ncc_world.specs.declared.event.Event.TheVariants.{Apply}
 use Rattle.ncc_world.specs.declared.running.Running.{Running}
 use Rattle.ncc_world.specs.Setting.{Seats, over_list, over_raft, cluster_of}
-use Rattle.ncc_world.specs.Happening.{WorldRun, is_member, is_session, is_busy_at, refuses_apply, refusal, unless}
+use Rattle.ncc_world.specs.Happening.{WorldRun, is_member, is_session, is_busy_at, refuses_apply, refusal}
+use Rattle.ncc_world.specs.Rafts.{unless, refuses_core, refuses_message, refuses_pull, refuses_crash}
 use Rattle.ncc_world.specs.Drivers.{AreAtWork, IsOne, KeptDrivers, has_session, is_busy_in, left_of, refuses_work}
 use Rattle.ncc_world.specs.declared.world.World.TheInside.{Inside}
 use Rattle.ncc_world.specs.Inner.{kept_of}
@@ -178,10 +179,34 @@ applies_as s m (over_raft fleet) history member there first k f = absurd k
 
 pub refused_apply : (s : Setup) (w : KeptRun) (r : WorldRun) (member count : ℕ) (there first : Bool) → RunsAs s w r
     → there ≡ is_member r member → first ≡ (member == 1)
-    → (if there then (if first then Some WrongRole else None) else Some NoMember) ≡ refusal r (Apply member count)
+    → (if there then (if first then Some WrongRole else None) else Some NoMember) ≡ refusal s r (Apply member count)
 refused_apply s w r member count there first k e f =
     applies_as s w.members r.members r.history member there first k.members f
     ∙ ap (λ (b : Bool). refuses_apply r.members b member) e
+
+-- Over one list nothing happens that is of Raft alone.
+pub core_refused : (s : Setup) (m : KeptMembers) (seats : Seats) (history : List Item) (member : ℕ) → AreMembers s m seats history
+    → Some WrongWorld ≡ refuses_core s seats member
+core_refused s m (over_list lists) history member k = refl
+core_refused s m (over_raft fleet) history member k = absurd k
+
+pub message_refused : (s : Setup) (m : KeptMembers) (seats : Seats) (history : List Item) (message : ℕ) → AreMembers s m seats history
+    → Some WrongWorld ≡ refuses_message seats message
+message_refused s m (over_list lists) history message k = refl
+message_refused s m (over_raft fleet) history message k = absurd k
+
+pub pull_refused : (s : Setup) (m : KeptMembers) (seats : Seats) (history : List Item) (replica core : ℕ) → AreMembers s m seats history
+    → Some WrongWorld ≡ refuses_pull s seats replica core
+pull_refused s m (over_list lists) history replica core k = refl
+pull_refused s m (over_raft fleet) history replica core k = absurd k
+
+pub crash_refused : (s : Setup) (m : KeptMembers) (seats : Seats) (history : List Item) (member : ℕ) → AreMembers s m seats history
+    → Some WrongWorld ≡ refuses_crash s seats member
+crash_refused s m (over_list lists) history member k = refl
+crash_refused s m (over_raft fleet) history member k = absurd k
+
+pub wrong_world : (o : Option WorldError) → Some WrongWorld ≡ o → o ≡ None → ⊥
+wrong_world o e f = let z : Some WrongWorld ≡ None = e ∙ f in absurd (cc)
 
 -- The list of sessions has as many as the run.
 pub has_counted : (s : Setup) (at : ℕ) (left : List Action) (pending : List ℕ) (k : KeptDrivers) (r : WorldRun) (session : ℕ)

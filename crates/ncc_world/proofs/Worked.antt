@@ -22,7 +22,8 @@ use Rattle.ncc_clients.specs.Links.{Link, Linked, Driver, lift_bytes}
 use Rattle.ncc_clients.specs.Drives.{feeds_one, driver_at, is_busy, lifts, lifts_by, falls, falls_by, cuts, cuts_by, up_at, down_at, waits_above, Rests}
 use Rattle.ncc_world.specs.declared.event.Job.{Job}
 use Rattle.ncc_safety.specs.Fleet.{Fleet}
-use Rattle.ncc_world.specs.Happening.{WorldRun, unless, refuses_apply, is_printed, is_linked, is_open_made, is_session, is_busy_at, refusal, own, asks, Steps}
+use Rattle.ncc_world.specs.Happening.{WorldRun, refuses_apply, is_printed, is_linked, is_open_made, is_session, is_busy_at, refusal, own, asks, Steps}
+use Rattle.ncc_world.specs.Rafts.{unless, has_member, refuses_core, refuses_message}
 
 -- ---- members
 
@@ -52,31 +53,59 @@ full_log s lists entry e =
 
 -- ---- events
 
-pub clock_stands : (r : WorldRun) → refusal r (event.Time r.now) ≡ None
-clock_stands r = ap (λ b. unless b error.BackInTime) (le-leb r.now r.now (omega arith))
+pub clock_stands : (s : Setup) (r : WorldRun) → refusal s r (event.Time r.now) ≡ None
+clock_stands s r = ap (λ b. unless b error.BackInTime) (le-leb r.now r.now (omega arith))
 
-pub clock_back : (r : WorldRun) (to : ℕ) → to < r.now → refusal r (event.Time to) ≡ Some error.BackInTime
-clock_back r to h = ap (λ b. unless b error.BackInTime) (lt-leb r.now to h)
+pub clock_back : (s : Setup) (r : WorldRun) (to : ℕ) → to < r.now → refusal s r (event.Time to) ≡ Some error.BackInTime
+clock_back s r to h = ap (λ b. unless b error.BackInTime) (lt-leb r.now to h)
 
 -- an event by which a member applies, among these members
-applies_in : (r : WorldRun) (seats : Seats) (member count : ℕ) → r.members ≡ seats
-    → refusal r (event.Apply member count) ≡ refuses_apply seats (nat_le 1 member && nat_le member (length (lists_of seats))) member
-applies_in r seats member count e =
+applies_in : (s : Setup) (r : WorldRun) (seats : Seats) (member count : ℕ) → r.members ≡ seats
+    → refusal s r (event.Apply member count) ≡ refuses_apply seats (nat_le 1 member && nat_le member (length (lists_of seats))) member
+applies_in s r seats member count e =
     ap (λ (x : Seats). refuses_apply x (nat_le 1 member && nat_le member (length (lists_of x))) member) e
 
-pub leader_lags_not : (r : WorldRun) (lists : Lists) (count : ℕ) → r.members ≡ over_list lists → 1 ≤ length lists
-    → refusal r (event.Apply 1 count) ≡ Some error.WrongRole
-leader_lags_not r lists count e h =
-    applies_in r (over_list lists) 1 count e
+pub leader_lags_not : (s : Setup) (r : WorldRun) (lists : Lists) (count : ℕ) → r.members ≡ over_list lists → 1 ≤ length lists
+    → refusal s r (event.Apply 1 count) ≡ Some error.WrongRole
+leader_lags_not s r lists count e h =
+    applies_in s r (over_list lists) 1 count e
     ∙ ap (λ b. cond (true && b) (Some error.WrongRole) (Some error.NoMember)) (le-leb 1 (length lists) h)
 
-pub nobody_lags : (r : WorldRun) (lists : Lists) (count : ℕ) → r.members ≡ over_list lists
-    → refusal r (event.Apply 0 count) ≡ Some error.NoMember
-nobody_lags r lists count e = applies_in r (over_list lists) 0 count e
+pub nobody_lags : (s : Setup) (r : WorldRun) (lists : Lists) (count : ℕ) → r.members ≡ over_list lists
+    → refusal s r (event.Apply 0 count) ≡ Some error.NoMember
+nobody_lags s r lists count e = applies_in s r (over_list lists) 0 count e
 
-pub raft_lags_not : (r : WorldRun) (fleet : Fleet) (member count : ℕ) → r.members ≡ over_raft fleet
-    → refusal r (event.Apply member count) ≡ Some error.WrongWorld
-raft_lags_not r fleet member count e = applies_in r (over_raft fleet) member count e
+pub raft_lags_not : (s : Setup) (r : WorldRun) (fleet : Fleet) (member count : ℕ) → r.members ≡ over_raft fleet
+    → refusal s r (event.Apply member count) ≡ Some error.WrongWorld
+raft_lags_not s r fleet member count e = applies_in s r (over_raft fleet) member count e
+
+-- ---- events of members over Raft
+
+no_core_in : (s : Setup) (r : WorldRun) (seats : Seats) (member : ℕ) → r.members ≡ seats
+    → refusal s r (event.Timeout member) ≡ refuses_core s seats member
+no_core_in s r seats member e = ap (λ (x : Seats). refuses_core s x member) e
+
+pub lists_time_out_not : (s : Setup) (r : WorldRun) (lists : Lists) (member : ℕ) → r.members ≡ over_list lists
+    → refusal s r (event.Timeout member) ≡ Some error.WrongWorld
+lists_time_out_not s r lists member e = no_core_in s r (over_list lists) member e
+
+pub nobody_times_out : (s : Setup) (r : WorldRun) (fleet : Fleet) → r.members ≡ over_raft fleet
+    → refusal s r (event.Timeout 0) ≡ Some error.NoMember
+nobody_times_out s r fleet e = no_core_in s r (over_raft fleet) 0 e
+
+pub replicas_time_out_not : (s : Setup) (r : WorldRun) (fleet : Fleet) → r.members ≡ over_raft fleet → 1 ≤ s.replicas
+    → refusal s r (event.Timeout (s.cores + 1)) ≡ Some error.WrongRole
+replicas_time_out_not s r fleet e h =
+    let there : has_member s (s.cores + 1) ≡ true =
+    ap (λ b. b && nat_le (s.cores + 1) (s.cores + s.replicas)) (le-leb 1 (s.cores + 1) (omega arith))
+    ∙ le-leb (s.cores + 1) (s.cores + s.replicas) (omega (arith, h)) in
+    no_core_in s r (over_raft fleet) (s.cores + 1) e
+    ∙ ap (λ b. cond b (unless (nat_le (s.cores + 1) s.cores) error.WrongRole) (Some error.NoMember)) there
+    ∙ ap (λ b. unless b error.WrongRole) (lt-leb (s.cores + 1) s.cores (omega arith))
+
+pub no_message_is_first : (s : Setup) (r : WorldRun) (fleet : Fleet) → r.members ≡ over_raft fleet
+    → refusal s r (event.Deliver 0) ≡ Some error.NoMessage
+no_message_is_first s r fleet e = ap (λ (x : Seats). refuses_message x 0) e
 
 get_last : {X : Type 0} (xs : List X) (x : X) → slice_get (xs ++ (x ∷ [])) (length xs) ≡ Some x
 get_last [] x = refl
@@ -110,7 +139,7 @@ not_printed s r member request =
     ap (λ (x : WorldRun). is_printed (slice_get x.clients (length r.clients))) fed_is ∙ ap is_printed then_
 
 pub unnamed : (s : Setup) (r : WorldRun) (member : ℕ) (request : Request) (bytes : List ℕ)
-    → refusal (asks s r member request) (event.Bytes (length r.clients + 1) bytes) ≡ Some error.NoConn
+    → refusal s (asks s r member request) (event.Bytes (length r.clients + 1) bytes) ≡ Some error.NoConn
 unnamed s r member request bytes =
     let index : length r.clients ≡ length r.clients + 1 - 1 = omega arith in
     let low : nat_le 1 (length r.clients + 1) ≡ true = le-leb 1 (length r.clients + 1) (omega arith) in
@@ -143,9 +172,9 @@ any_is conn (x ∷ xs) l (suc n, lt, g) e = or_true (x.conn == conn) _ (any_is c
   or_true true b h = refl
   or_true false b h = h
 
-pub links_are_apart : (r : WorldRun) (l : Linked) (bytes : List ℕ) → Contains r.driving.linked l
-    → refusal r (event.Bytes l.conn bytes) ≡ Some error.NoConn
-links_are_apart r l bytes has =
+pub links_are_apart : (s : Setup) (r : WorldRun) (l : Linked) (bytes : List ℕ) → Contains r.driving.linked l
+    → refusal s r (event.Bytes l.conn bytes) ≡ Some error.NoConn
+links_are_apart s r l bytes has =
     let there : is_linked r l.conn ≡ true = any_is l.conn r.driving.linked l has refl in
     ap (λ b. unless b error.NoConn)
     (ap (λ b. nat_le 1 l.conn && (is_printed (slice_get r.clients (l.conn - 1)) && not b)) there
@@ -161,12 +190,12 @@ not_there r =
     let n : ℕ = length r.driving.drivers in
     ap (λ b. b && nat_le (n + 1) n) (le-leb 1 (n + 1) (omega arith)) ∙ lt-leb (n + 1) n (omega arith)
 
-pub no_session : (r : WorldRun) → refusal r (event.Cut (length r.driving.drivers + 1)) ≡ Some error.NoSession
-no_session r = ap (λ b. unless b error.NoSession) (not_there r)
+pub no_session : (s : Setup) (r : WorldRun) → refusal s r (event.Cut (length r.driving.drivers + 1)) ≡ Some error.NoSession
+no_session s r = ap (λ b. unless b error.NoSession) (not_there r)
 
-pub busy_session : (r : WorldRun) (session : ℕ) (d : Driver) (job : Job) → 1 ≤ session → driver_at r (session - 1) ≡ Some d
-    → is_busy d ≡ true → refusal r (event.Work session job) ≡ Some error.Busy
-busy_session r session d job low there busy =
+pub busy_session : (s : Setup) (r : WorldRun) (session : ℕ) (d : Driver) (job : Job) → 1 ≤ session → driver_at r (session - 1) ≡ Some d
+    → is_busy d ≡ true → refusal s r (event.Work session job) ≡ Some error.Busy
+busy_session s r session d job low there busy =
     let high : session ≤ length r.driving.drivers = omega (arith, low, within r.driving.drivers (session - 1) d there) in
     let is : is_session r session ≡ true =
     ap (λ b. b && nat_le session (length r.driving.drivers)) (le-leb 1 session low)

@@ -12,18 +12,21 @@ use Rattle.ncc_clients.specs.Members.{addresses}
 use Rattle.ncc_clients.specs.Links.{Linked, lift_bytes}
 use Rattle.ncc_clients.specs.Run.{Run, Client, begun, ticked, opened, moved}
 use Rattle.ncc_clients.specs.Drives.{feeds, closes, driver_at, is_busy, makes, begins, lifts, falls, cuts, wakes_all, down_at}
-use Rattle.ncc_clients.specs.Drives.{Pumps, Pumping, Rests, Stops, Lifts, Falls}
+use Rattle.ncc_clients.specs.Drives.{ends_at, Pumps, Pumping, Rests, Stops, Lifts, Falls}
+use Rattle.ncc_raft.specs.Member as raft
 use Rattle.ncc_clients.specs.Course.{ComeAsBytes}
 use Rattle.ncc_clients.specs.Turn.{Turns, Settles}
 use Rattle.ncc_world.specs.declared.setup.Setup.{Setup}
 use Rattle.ncc_world.specs.declared.event.Event.{Event}
-use Rattle.ncc_world.specs.declared.event.Event.TheVariants.{Time, Put, Get, Apply, Open, Bytes, Close, Session, Work, Up, Down, Pump, Cut}
+use Rattle.ncc_world.specs.declared.event.Event.TheVariants.{Time, Put, Get, Apply, Timeout, Beat, Deliver, Pull, Crash, Open, Bytes, Close}
+use Rattle.ncc_world.specs.declared.event.Event.TheVariants.{Session, Work, Up, Down, Pump, Cut}
 use Rattle.ncc_world.specs.declared.event.Job.{Job}
 use Rattle.ncc_world.specs.declared.event.Job.TheVariants.{Add}
 use Rattle.ncc_world.specs.declared.event.Job.TheVariants as job
 use Rattle.ncc_world.specs.declared.error.WorldError.{WorldError}
 use Rattle.ncc_world.specs.declared.error.WorldError.TheVariants.{NoMember, NoConn, NoSession, BackInTime, WrongWorld, WrongRole, Busy}
 use Rattle.ncc_world.specs.Events.{CountsSome}
+use Rattle.ncc_world.specs.Rafts.{unless, refuses_core, refuses_message, refuses_pull, refuses_crash, stepping, delivered, pulled, restarted}
 use Rattle.ncc_world.specs.Setting.{Seats, over_list, over_raft, lists_of, cluster_of, lagging, seats_of}
 use Rattle.ncc_world.specs.Requests.{client_bytes, put_request, get_request}
 
@@ -57,30 +60,31 @@ is_session r session = nat_le 1 session && nat_le session (length r.driving.driv
 abbrev pub is_busy_at : WorldRun → ℕ → Bool
 is_busy_at r session = elim (driver_at r (session - 1)) [ Some d ↦ is_busy d | None ↦ false ]
 
-abbrev pub unless : Bool → WorldError → Option WorldError
-unless true error = None
-unless false error = Some error
-
 -- Over Raft members apply by themselves.
 abbrev pub refuses_apply : Seats → Bool → ℕ → Option WorldError
 refuses_apply (over_list lists) there member = if there then (if member == 1 then Some WrongRole else None) else Some NoMember
 refuses_apply (over_raft fleet) there member = Some WrongWorld
 
-abbrev pub refusal : WorldRun → Event → Option WorldError
-refusal r (Time to) = unless (nat_le r.now to) BackInTime
-refusal r (Put member key value bookmarks) = unless (is_member r member) NoMember
-refusal r (Get member key bookmarks) = unless (is_member r member) NoMember
-refusal r (Apply member count) = refuses_apply r.members (is_member r member) member
-refusal r (Open member) = unless (is_member r member) NoMember
-refusal r (Bytes conn bytes) = unless (is_open_made r conn) NoConn
-refusal r (Close conn) = unless (is_open_made r conn) NoConn
-refusal r (Session seed) = None
-refusal r (Work session job) =
+abbrev pub refusal : Setup → WorldRun → Event → Option WorldError
+refusal s r (Time to) = unless (nat_le r.now to) BackInTime
+refusal s r (Put member key value bookmarks) = unless (is_member r member) NoMember
+refusal s r (Get member key bookmarks) = unless (is_member r member) NoMember
+refusal s r (Apply member count) = refuses_apply r.members (is_member r member) member
+refusal s r (Timeout member) = refuses_core s r.members member
+refusal s r (Beat member) = refuses_core s r.members member
+refusal s r (Deliver message) = refuses_message r.members message
+refusal s r (Pull replica core) = refuses_pull s r.members replica core
+refusal s r (Crash member) = refuses_crash s r.members member
+refusal s r (Open member) = unless (is_member r member) NoMember
+refusal s r (Bytes conn bytes) = unless (is_open_made r conn) NoConn
+refusal s r (Close conn) = unless (is_open_made r conn) NoConn
+refusal s r (Session seed) = None
+refusal s r (Work session job) =
     if is_session r session then unless (not (is_busy_at r session)) Busy else Some NoSession
-refusal r (Up session count) = unless (is_session r session) NoSession
-refusal r (Down session count) = unless (is_session r session) NoSession
-refusal r (Pump session requests) = unless (is_session r session) NoSession
-refusal r (Cut session) = unless (is_session r session) NoSession
+refusal s r (Up session count) = unless (is_session r session) NoSession
+refusal s r (Down session count) = unless (is_session r session) NoSession
+refusal s r (Pump session requests) = unless (is_session r session) NoSession
+refusal s r (Cut session) = unless (is_session r session) NoSession
 
 -- ---- its own step
 
@@ -107,6 +111,11 @@ own s line (Time to) r = wakes_all (cluster_of s) line (ticked r to)
 own s line (Put member key value bookmarks) r = asks s r member (put_request key value bookmarks)
 own s line (Get member key bookmarks) r = asks s r member (get_request key bookmarks)
 own s line (Apply member count) r = moved (cluster_of s) r (lagged r.members member count)
+own s line (Timeout member) r = moved (cluster_of s) r (stepping s r.members member raft.Timeout)
+own s line (Beat member) r = moved (cluster_of s) r (stepping s r.members member raft.Beat)
+own s line (Deliver message) r = moved (cluster_of s) r (delivered s r.members message)
+own s line (Pull replica core) r = moved (cluster_of s) r (pulled s r.members replica core)
+own s line (Crash member) r = ends_at (cluster_of s) line member (restarted s r.members member) r
 own s line (Open member) r = opened r member true
 own s line (Bytes conn bytes) r = feeds (cluster_of s) r (conn - 1) bytes
 own s line (Close conn) r = closes r (conn - 1)
@@ -138,7 +147,7 @@ Steps s line event r t = t ≡ own s line event r
 
 -- an event of this line: it is not refused, and behind its own step all who can be answered are
 pub record Happens (s : Setup) (line : ℕ) (event : Event) (r t : WorldRun) : Type 0 where
-  pub allowed : refusal r event ≡ None
+  pub allowed : refusal s r event ≡ None
   pub stepped : WorldRun
   pub steps : Steps s line event r stepped
   pub settles : Settles (cluster_of s) line stepped t
@@ -164,5 +173,5 @@ pub record Within (s : Setup) (es : List (ℕ × Event)) (line : ℕ) (moment : 
   pub events_are : es ≡ before ++ ((line, event) ∷ behind)
   pub from : WorldRun
   pub ran : RunsOn s before (start_of s) from
-  pub allowed : refusal from event ≡ None
+  pub allowed : refusal s from event ≡ None
   pub passes : Passes s line event from moment

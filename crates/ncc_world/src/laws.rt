@@ -63,18 +63,31 @@ pub fn worked_members()
 /// Worked cases of events: the clock may stand still and does not go back; over one list the leader applies by no event, and member 0 is
 /// none; over Raft nobody applies by an event; nobody sends bytes on the connection of a `put` or `get`; bytes do nothing on a connection that is closed.
 pub fn worked_events()
-    ensures stands { (r : WorldRun) → refusal r (event.Time r.now) ≡ None }
-    ensures back { (r : WorldRun) (to : ℕ) → to < r.now → refusal r (event.Time to) ≡ Some error.BackInTime }
-    ensures leader { (r : WorldRun) (lists : Lists) (count : ℕ) → r.members ≡ over_list lists → 1 ≤ length lists
-        → refusal r (event.Apply 1 count) ≡ Some error.WrongRole }
-    ensures nobody { (r : WorldRun) (lists : Lists) (count : ℕ) → r.members ≡ over_list lists
-        → refusal r (event.Apply 0 count) ≡ Some error.NoMember }
-    ensures raft { (r : WorldRun) (fleet : Fleet) (member count : ℕ) → r.members ≡ over_raft fleet
-        → refusal r (event.Apply member count) ≡ Some error.WrongWorld }
+    ensures stands { (s : Setup) (r : WorldRun) → refusal s r (event.Time r.now) ≡ None }
+    ensures back { (s : Setup) (r : WorldRun) (to : ℕ) → to < r.now → refusal s r (event.Time to) ≡ Some error.BackInTime }
+    ensures leader { (s : Setup) (r : WorldRun) (lists : Lists) (count : ℕ) → r.members ≡ over_list lists → 1 ≤ length lists
+        → refusal s r (event.Apply 1 count) ≡ Some error.WrongRole }
+    ensures nobody { (s : Setup) (r : WorldRun) (lists : Lists) (count : ℕ) → r.members ≡ over_list lists
+        → refusal s r (event.Apply 0 count) ≡ Some error.NoMember }
+    ensures raft { (s : Setup) (r : WorldRun) (fleet : Fleet) (member count : ℕ) → r.members ≡ over_raft fleet
+        → refusal s r (event.Apply member count) ≡ Some error.WrongWorld }
     ensures unnamed { (s : Setup) (r : WorldRun) (member : ℕ) (request : Request) (bytes : List ℕ)
-        → refusal (asks s r member request) (event.Bytes (length r.clients + 1) bytes) ≡ Some error.NoConn }
+        → refusal s (asks s r member request) (event.Bytes (length r.clients + 1) bytes) ≡ Some error.NoConn }
     ensures closed { (s : Setup) (line : ℕ) (r : WorldRun) (conn : ℕ) (c : Client) (bytes : List ℕ) → slice_get r.clients (conn - 1) ≡ Some c
         → c.closed ≡ true → own s line (event.Bytes conn bytes) r ≡ r }
+{}
+
+/// Worked cases of events of members over Raft: over one list there are none; member 0 is none; a replica has no time that runs out; and
+/// messages are numbered from 1.
+pub fn worked_raft()
+    ensures list { (s : Setup) (r : WorldRun) (lists : Lists) (member : ℕ) → r.members ≡ over_list lists
+        → refusal s r (event.Timeout member) ≡ Some error.WrongWorld }
+    ensures nobody { (s : Setup) (r : WorldRun) (fleet : Fleet) → r.members ≡ over_raft fleet
+        → refusal s r (event.Timeout 0) ≡ Some error.NoMember }
+    ensures replica { (s : Setup) (r : WorldRun) (fleet : Fleet) → r.members ≡ over_raft fleet → 1 ≤ s.replicas
+        → refusal s r (event.Timeout (s.cores + 1)) ≡ Some error.WrongRole }
+    ensures message { (s : Setup) (r : WorldRun) (fleet : Fleet) → r.members ≡ over_raft fleet
+        → refusal s r (event.Deliver 0) ≡ Some error.NoMessage }
 {}
 
 /// Worked cases of sessions: there is none past the last; one in which a work runs begins none; nobody else sends on its link's
@@ -82,11 +95,11 @@ pub fn worked_events()
 pub fn worked_sessions()
     ensures made { (s : Setup) (line seed : ℕ) (r : WorldRun)
         → (own s line (event.Session seed) r).driving.drivers ≡ r.driving.drivers ++ new_driver (config_of s seed) ∷ [] }
-    ensures past { (r : WorldRun) → refusal r (event.Cut (length r.driving.drivers + 1)) ≡ Some error.NoSession }
-    ensures busy { (r : WorldRun) (session : ℕ) (d : Driver) (job : Job) → 1 ≤ session → driver_at r (session - 1) ≡ Some d
-        → is_busy d ≡ true → refusal r (event.Work session job) ≡ Some error.Busy }
-    ensures apart { (r : WorldRun) (l : Linked) (bytes : List ℕ) → Contains r.driving.linked l
-        → refusal r (event.Bytes l.conn bytes) ≡ Some error.NoConn }
+    ensures past { (s : Setup) (r : WorldRun) → refusal s r (event.Cut (length r.driving.drivers + 1)) ≡ Some error.NoSession }
+    ensures busy { (s : Setup) (r : WorldRun) (session : ℕ) (d : Driver) (job : Job) → 1 ≤ session → driver_at r (session - 1) ≡ Some d
+        → is_busy d ≡ true → refusal s r (event.Work session job) ≡ Some error.Busy }
+    ensures apart { (s : Setup) (r : WorldRun) (l : Linked) (bytes : List ℕ) → Contains r.driving.linked l
+        → refusal s r (event.Bytes l.conn bytes) ≡ Some error.NoConn }
     ensures up { (s : Setup) (line : ℕ) (r : WorldRun) (session : ℕ) (d : Driver) → driver_at r (session - 1) ≡ Some d → d.link ≡ None
         → (count : ℕ) → own s line (event.Up session count) r ≡ r }
     ensures down { (s : Setup) (line : ℕ) (r : WorldRun) (session : ℕ) (d : Driver) → driver_at r (session - 1) ≡ Some d → d.link ≡ None

@@ -8,7 +8,8 @@ ghost use Rattle.ncc_clients.specs.Run.{Client, reply, proposes, told_to, opened
 ghost use Rattle.ncc_clients.specs.Turn.{acts, Settles};
 ghost use Rattle.ncc_world.specs.Setting.{IsSetup, cluster_of};
 ghost use Rattle.ncc_world.specs.Events.{MayHappen};
-ghost use Rattle.ncc_world.specs.Happening.{WorldRun, Happens, Steps, start_of, refusal, unless, asks, lagged, is_member, is_open_made};
+ghost use Rattle.ncc_world.specs.Happening.{WorldRun, Happens, Steps, start_of, refusal, asks, lagged, is_member, is_open_made};
+ghost use Rattle.ncc_world.specs.Rafts.{unless};
 ghost use Rattle.ncc_clients.specs.Drives.{feeds, closes_one};
 ghost use Rattle.ncc_world.specs.Earlier.{LeftFor};
 ghost use Rattle.ncc_world.specs.World.{RunsAs};
@@ -308,7 +309,7 @@ impl Running {
 
     /// Why an event is refused, if it is.
     pub(crate) fn refusal(&self, setup: &Setup, event: &Event) -> Option<WorldError>
-        ensures exact { (r : WorldRun) → RunsAll setup.now self.now r → result ≡ refusal r event.now }
+        ensures exact { (r : WorldRun) → RunsAll setup.now self.now r → result ≡ refusal setup.now r event.now }
     {
         match event {
             Event::Time { to } => unless(self.clock <= *to, WorldError::BackInTime),
@@ -327,6 +328,11 @@ impl Running {
                     None
                 }
             }
+            Event::Timeout { .. } => Some(WorldError::WrongWorld),
+            Event::Beat { .. } => Some(WorldError::WrongWorld),
+            Event::Deliver { .. } => Some(WorldError::WrongWorld),
+            Event::Pull { .. } => Some(WorldError::WrongWorld),
+            Event::Crash { .. } => Some(WorldError::WrongWorld),
             Event::Open { member } => unless(self.is_member(setup, *member), WorldError::NoMember),
             Event::Bytes { conn, .. } => {
                 unless(self.is_open_made(setup, *conn), WorldError::NoConn)
@@ -440,7 +446,7 @@ impl Running {
         requires allowed { IsSetup setup.now }
         requires live { HasAll setup.now self.old }
         requires may_happen { MayHappen setup.now.cluster event.now }
-        requires taken { (r : WorldRun) → RunsAll setup.now self.old r → refusal r event.now ≡ None }
+        requires taken { (r : WorldRun) → RunsAll setup.now self.old r → refusal setup.now r event.now ≡ None }
         ensures ok { OnOk result ((r : WorldRun) → RunsAll setup.now self.old r →
             (t : WorldRun) × Steps setup.now line event.now r t × RunsAll setup.now self.new t) }
     {
@@ -467,6 +473,11 @@ impl Running {
                 self.ask(alloc, setup, *member, &request)
             }
             Event::Apply { member, count } => self.apply(setup, *member, *count),
+            Event::Timeout { .. } => unreachable!(),
+            Event::Beat { .. } => unreachable!(),
+            Event::Deliver { .. } => unreachable!(),
+            Event::Pull { .. } => unreachable!(),
+            Event::Crash { .. } => unreachable!(),
             Event::Open { member } => self.open(alloc, setup, *member, true),
             Event::Bytes { conn, bytes } => {
                 let piece = bytes.copy()?;
@@ -502,7 +513,7 @@ impl Running {
         requires allowed { IsSetup setup.now }
         requires live { HasAll setup.now self.old }
         requires may_happen { MayHappen setup.now.cluster event.now }
-        requires taken { (r : WorldRun) → RunsAll setup.now self.old r → refusal r event.now ≡ None }
+        requires taken { (r : WorldRun) → RunsAll setup.now self.old r → refusal setup.now r event.now ≡ None }
         ensures ok { OnOk result ((r : WorldRun) → RunsAll setup.now self.old r →
             (t : WorldRun) × Happens setup.now line event.now r t × RunsAll setup.now self.new t) }
     {

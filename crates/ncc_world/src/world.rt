@@ -81,8 +81,8 @@ impl World {
         requires may_happen { MayHappen self.old.setup.cluster event.now }
         ensures ok { (r : WorldRun) → Stands self.old r → OnOk result ((t : WorldRun) × Happens self.old.setup line event.now r t × Stands self.new t) }
         ensures refused { (r : WorldRun) (e : WorldErrors) → Stands self.old r → IsErrOf result e → IsTrue (is_refusal e) →
-            (refusal r event.now ≡ Some e) × (self.new ≡ self.old) }
-        ensures refuses { (r : WorldRun) (e : WorldErrors) → Stands self.old r → refusal r event.now ≡ Some e → IsErrOf result e }
+            (refusal self.old.setup r event.now ≡ Some e) × (self.new ≡ self.old) }
+        ensures refuses { (r : WorldRun) (e : WorldErrors) → Stands self.old r → refusal self.old.setup r event.now ≡ Some e → IsErrOf result e }
         ensures memory { IsErrOf result WorldError.Memory → self.new.standing ≡ spent }
         ensures limit { (which : Limits) → IsErrOf result (WorldError.Limit which) → (self.old.standing ≡ past which) × (self.new ≡ self.old) }
         ensures stays_spent { self.old.standing ≡ spent → IsErrOf result WorldError.Memory }

@@ -28,7 +28,7 @@ feed-requires-clause-there c =
     let r = c.requires.live.run in
     let n = counted c.args.setup.now (run_in c.args.self.now) r c.requires.live.runs_all.runs_as in
     let made = allowed_by (is_open_made r c.in-Bytes.conn) NoConn
-    (ap (refusal r) (sym c.in-Bytes.is) ∙ c.requires.taken r c.requires.live.runs_all) in
+    (ap (refusal c.args.setup.now r) (sym c.in-Bytes.is) ∙ c.requires.taken r c.requires.live.runs_all) in
     omega (arith, made_within r c.in-Bytes.conn made, n.table)
 
 pub close-requires-clause-there : goal.close-requires-clause-there
@@ -36,7 +36,7 @@ close-requires-clause-there c =
     let r = c.requires.live.run in
     let n = counted c.args.setup.now (run_in c.args.self.now) r c.requires.live.runs_all.runs_as in
     let made = allowed_by (is_open_made r c.in-Close.conn) NoConn
-    (ap (refusal r) (sym c.in-Close.is) ∙ c.requires.taken r c.requires.live.runs_all) in
+    (ap (refusal c.args.setup.now r) (sym c.in-Close.is) ∙ c.requires.taken r c.requires.live.runs_all) in
     omega (arith, made_within r c.in-Close.conn made, n.table)
 
 pub ask-requires-clause-fits : goal.ask-requires-clause-fits
@@ -57,7 +57,7 @@ wake_all-requires-clause-live c =
     let k = c.requires.live.runs_all in
     record {
       run = ticked r c.in-Time.to;
-      runs_all = ticked_all c.args.setup.now c.args.self.now r c.in-Time.to k (ap (refusal r) (sym c.in-Time.is) ∙ c.requires.taken r k);
+      runs_all = ticked_all c.args.setup.now c.args.self.now r c.in-Time.to k (ap (refusal c.args.setup.now r) (sym c.in-Time.is) ∙ c.requires.taken r k);
     }
 
 pub returns-in-Time : goal.returns-in-Time
@@ -65,7 +65,7 @@ returns-in-Time c = record {
   ok = on_ok_weaker c.wake_all.result (λ f r k.
       let s = c.args.setup.now in
       let t : WorldRun = wakes_all (cluster_of s) c.args.line (ticked r c.in-Time.to) in
-      let later = ticked_all s c.args.self.now r c.in-Time.to k (ap (refusal r) (sym c.in-Time.is) ∙ c.requires.taken r k) in
+      let later = ticked_all s c.args.self.now r c.in-Time.to k (ap (refusal c.args.setup.now r) (sym c.in-Time.is) ∙ c.requires.taken r k) in
       let runs : RunsAll s c.wake_all.new.self t = f (ticked r c.in-Time.to) later in
       subst (Stepped s c.args.line c.wake_all.new.self r) (sym c.in-Time.is) (t, own_time s c.args.line r c.in-Time.to, runs)) c.wake_all.ensures.ok;
 }
@@ -162,12 +162,12 @@ pub begin-requires-clause-live : goal.begin-requires-clause-live
 begin-requires-clause-live c =
     let r = c.requires.live.run in
     let k = c.requires.live.runs_all in
-    let may = may_work r c.in-Work.session (ap (refusal r) (sym c.in-Work.is) ∙ c.requires.taken r k) in
+    let may = may_work r c.in-Work.session (ap (refusal c.args.setup.now r) (sym c.in-Work.is) ∙ c.requires.taken r k) in
     done_at c.args.setup.now c.args.self.now r c.in-Work.session k (named r c.in-Work.session may.named)
 
 pub begin-requires-clause-rests : goal.begin-requires-clause-rests
 begin-requires-clause-rests c = λ r k.
-    let may = may_work r c.in-Work.session (ap (refusal r) (sym c.in-Work.is) ∙ c.requires.taken r k) in
+    let may = may_work r c.in-Work.session (ap (refusal c.args.setup.now r) (sym c.in-Work.is) ∙ c.requires.taken r k) in
     let n = named r c.in-Work.session may.named in
     ap (λ (i : ℕ). is_busy_at r i) (let same : c.in-Work.session - 1 + 1 ≡ c.in-Work.session = omega (arith, n.some) in same) ∙ may.rests
 
@@ -177,7 +177,7 @@ rise_bytes-requires c =
     let k = c.requires.live.runs_all in
     record {
       live = done_at c.args.setup.now c.args.self.now r c.in-Up.session k
-          (named r c.in-Up.session (ap (refusal r) (sym c.in-Up.is) ∙ c.requires.taken r k));
+          (named r c.in-Up.session (ap (refusal c.args.setup.now r) (sym c.in-Up.is) ∙ c.requires.taken r k));
     }
 
 pub fall-requires-clause-live : goal.fall-requires-clause-live
@@ -185,21 +185,21 @@ fall-requires-clause-live c =
     let r = c.requires.live.run in
     let k = c.requires.live.runs_all in
     done_at c.args.setup.now c.args.self.now r c.in-Down.session k
-    (named r c.in-Down.session (ap (refusal r) (sym c.in-Down.is) ∙ c.requires.taken r k))
+    (named r c.in-Down.session (ap (refusal c.args.setup.now r) (sym c.in-Down.is) ∙ c.requires.taken r k))
 
 pub pump-requires-clause-live : goal.pump-requires-clause-live
 pump-requires-clause-live c =
     let r = c.requires.live.run in
     let k = c.requires.live.runs_all in
     done_at c.args.setup.now c.args.self.now r c.in-Pump.session k
-    (named r c.in-Pump.session (ap (refusal r) (sym c.in-Pump.is) ∙ c.requires.taken r k))
+    (named r c.in-Pump.session (ap (refusal c.args.setup.now r) (sym c.in-Pump.is) ∙ c.requires.taken r k))
 
 pub cut-requires-clause-live : goal.cut-requires-clause-live
 cut-requires-clause-live c =
     let r = c.requires.live.run in
     let k = c.requires.live.runs_all in
     done_at c.args.setup.now c.args.self.now r c.in-Cut.session k
-    (named r c.in-Cut.session (ap (refusal r) (sym c.in-Cut.is) ∙ c.requires.taken r k))
+    (named r c.in-Cut.session (ap (refusal c.args.setup.now r) (sym c.in-Cut.is) ∙ c.requires.taken r k))
 
 pub returns-in-Work : goal.returns-in-Work
 returns-in-Work c = record {
