@@ -228,8 +228,8 @@ module _ {S : Type 0} (C : Cluster S) (start : S) (four : Four C start) where
   small_apart : (r s end : Run S) → Small C r s → Path C (begun start) r → Path C r end → Apart C start end.history r
       → Apart C start end.history s
   small_apart r s end (Ticks _ to le) from to_end k = fewer end.history r (ticked r to) (Ticks r to le) (λ place. omega arith) k
-  small_apart r s end (Opens _ member printed) from to_end k =
-      fewer end.history r (opened r member printed) (Opens r member printed)
+  small_apart r s end (Opens _ member printed some) from to_end k =
+      fewer end.history r (opened r member printed) (Opens r member printed some)
       (λ place. omega (
         arith,
         count_push (λ (c : Client). is_claim end.history place c.placing) r.clients (record {

@@ -1,5 +1,5 @@
 -- A run with sessions is a path of small things.
-use Rattle.std.proofs.Common.{◌≡◌, ℕ, ◌-◌, Bool, true, false, List, [], ◌∷◌, length, Option, Some, None, refl}
+use Rattle.std.proofs.Common.{◌≡◌, ℕ, ◌-◌, ◌≤◌, Bool, true, false, List, [], ◌∷◌, length, Option, Some, None, refl}
 use Rattle.std.specs.Prelude.{slice_get, if◌then◌else◌}
 use Rattle.ncc_driver.specs.declared.action.Action.{Action}
 use Rattle.ncc_driver.specs.declared.action.Action.TheVariants.{Connect, Send, Close, Sleep, Receive, Finish}
@@ -20,6 +20,7 @@ use Rattle.ncc_clients.specs.Drives.{falls_by, falls, cuts_by, cuts}
 use Rattle.ncc_clients.specs.Course.{Deed, Plain, Makes, Begins, Lifts, Falls, Cuts, Wakes, Course}
 use Rattle.ncc_clients.specs.Course.{Here as Nothing, Then as And}
 use Rattle.ncc_clients.proofs.Paths.{path_one, path_join}
+use Rattle.ncc_clients.proofs.Named.{named_some}
 
 module _ {S : Type 0} (C : Cluster S) where
   driver_path : (r : Run S) (k : ℕ) (d : Driver) → Path C r (with_driver r k d)
@@ -45,11 +46,13 @@ module _ {S : Type 0} (C : Cluster S) where
     go None e = Here r
     go (Some c) e = one c e c.closed refl
 
-  joins_path : (r : Run S) (k : ℕ) (d : Driver) (o : Option ℕ) → Path C r (joins_named k d r o)
-  joins_path r k d None = Here r
-  joins_path r k d (Some member) =
+  joins_path : (r : Run S) (k : ℕ) (d : Driver) (o : Option ℕ) → ((member : ℕ) → o ≡ Some member → 1 ≤ member)
+      → Path C r (joins_named k d r o)
+  joins_path r k d None some = Here r
+  joins_path r k d (Some member) some =
       let s = opened r member true in
-      Then r s (joins k d r member) (Opens r member true) (path_one C s (joins k d r member) (Drives s (joins k d r member).driving))
+      Then r s (joins k d r member) (Opens r member true (some member refl))
+      (path_one C s (joins k d r member) (Drives s (joins k d r member).driving))
 
   parts_path : (r : Run S) (k : ℕ) (d : Driver) (o : Option Link) → Path C r (parts C k d r o)
   parts_path r k d None = Here r
@@ -63,7 +66,7 @@ module _ {S : Type 0} (C : Cluster S) where
 
   module _ (line k : ℕ) where
     action_path : (r : Run S) (d : Driver) (a : Action) → Path C r (does_by C line k r d a)
-    action_path r d (Connect address) = joins_path r k d (member_named C address)
+    action_path r d (Connect address) = joins_path r k d (member_named C address) (named_some C address)
     action_path r d (Send bytes) = driver_path r k _
     action_path r d Close = parts_path r k d d.link
     action_path r d (Sleep until) = driver_path r k _

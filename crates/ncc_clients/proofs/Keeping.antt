@@ -312,7 +312,7 @@ module _ {S : Type 0} (C : Cluster S) (start : S) (known : Known) (four : Four C
 
   pub small_keeps : (r s : Run S) → Small C r s → Path C (begun start) r → AllSound C start r → AllSound C start s
   small_keeps r _ (Ticks _ to le) from k = all_stay r (ticked r to) (Ticks r to le) from refl refl k
-  small_keeps r _ (Opens _ member printed) from k = opened_keeps r member printed (Opens r member printed) from k
+  small_keeps r _ (Opens _ member printed some) from k = opened_keeps r member printed (Opens r member printed some) from k
   small_keeps r _ (Feeds _ i c piece is) from k =
       one_changes r (fed C r i c piece) i c (with_bytes C r.now c piece) (Feeds r i c piece is) from is.there refl refl k
       (fed_sound r i c piece (asked_at (talk_of C c).core) refl (Feeds r i c piece is) is (k.each i c is.there))

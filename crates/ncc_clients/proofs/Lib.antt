@@ -2,6 +2,7 @@ pub mod Lists
 pub mod Known
 pub mod Lives
 pub mod Paths
+pub mod Named
 pub mod Says
 pub mod Asked
 pub mod Fits

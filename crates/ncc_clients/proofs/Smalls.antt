@@ -185,7 +185,7 @@ module _ {S : Type 0} (C : Cluster S) where
 
     pub small_kept : (r s : Run S) (h : Small C r s) → LeavesSessions C r s h → Path C (begun start) r → Kept C r → Kept C s
     small_kept r s (Ticks _ to le) leaves from h = kept_of s (same_keeps r h)
-    small_kept r s (Opens _ member printed) leaves from h = kept_of s (opened_keeps r (newcomer r member printed) h)
+    small_kept r s (Opens _ member printed some) leaves from h = kept_of s (opened_keeps r (newcomer r member printed) h)
     small_kept r s (Feeds _ i c piece is) leaves from h = kept_of s (apart_keeps r i (with_bytes C r.now c piece) leaves h)
     small_kept r s (Tells line _ i c fact t) leaves from h =
         let a = is_said C r c fact t.replies in

@@ -93,7 +93,7 @@ module _ {S : Type 0} where
 
     small_goes : (r s : Run S) → Small C r s → NobodyVanishes r s
     small_goes r s (Ticks _ to le) = stays_there r (ticked r to) refl
-    small_goes r s (Opens _ member printed) = λ i c there. (c, get_append r.clients _ i c there, goes_self c)
+    small_goes r s (Opens _ member printed some) = λ i c there. (c, get_append r.clients _ i c there, goes_self c)
     small_goes r s (Feeds _ i c piece is) = one_goes r (fed C r i c piece) i c (with_bytes C r.now c piece) is.there refl (record {
       number = refl;
       member = refl;

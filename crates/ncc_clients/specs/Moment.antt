@@ -37,8 +37,8 @@ pub record Proposes {S : Type 0} (C : Cluster S) (r : Run S) (i : ℕ) (c : Clie
 pub data Small {S : Type 0} (C : Cluster S) : Run S → Run S → Type 0 where
   -- the clock goes on
   Ticks : (r : Run S) (to : ℕ) → r.now ≤ to → Small C r (ticked r to)
-  -- a client connects to a member
-  Opens : (r : Run S) (member : ℕ) (printed : Bool) → Small C r (opened r member printed)
+  -- a client connects to a member; they are numbered from 1
+  Opens : (r : Run S) (member : ℕ) (printed : Bool) → 1 ≤ member → Small C r (opened r member printed)
   -- its bytes come in
   Feeds : (r : Run S) (i : ℕ) (c : Client) (piece : List ℕ) → IsOpen r i c → Small C r (fed C r i c piece)
   -- its question is answered

@@ -6,7 +6,7 @@ use Rattle.ncc_world.specs.declared.setup.Setup.{Setup}
 use Rattle.ncc_world.specs.declared.event.Event.{Event}
 use Rattle.ncc_world.specs.declared.error.Which.{Which}
 use Rattle.ncc_world.specs.declared.error.Which.TheVariants as w
-use Rattle.ncc_world.specs.Happening.{ListRun, start_of}
+use Rattle.ncc_world.specs.Happening.{WorldRun, start_of}
 use Rattle.ncc_replay.specs.Script.{Script, End, whole, refused, limited, Lines, IsText, OneEnd, numbered, EventLines, ClusterLines}
 use Rattle.ncc_replay.specs.Script.{ScriptLines}
 use Rattle.ncc_replay.specs.Replay.{ReadsAll, ReadsUpTo, Passes, MayEnd, status_of, status_of_script_error}
@@ -25,7 +25,7 @@ read_is old new text read e h = go new (subst (λ o. Consumes o new read) e h.co
 
 -- a line of a script never passes the limit of the script's bytes
 
-never_events : (s : Setup) (n : ℕ) (r : ListRun) (ls : Lines) (es : List (ℕ × Event)) (t : ListRun) (end : End)
+never_events : (s : Setup) (n : ℕ) (r : WorldRun) (ls : Lines) (es : List (ℕ × Event)) (t : WorldRun) (end : End)
     → EventLines s n r ls es t end → end ≢ limited w.Script
 never_events s n r ls es t end (EventLines.none_left m q) e = cc
 never_events s n r ls es t end (EventLines.long m q number line rest h) e = cc
@@ -36,7 +36,7 @@ never_events s n r ls es t end (EventLines.many m q number line rest event a man
 never_events s n r ls es t end (EventLines.happens m q after number line rest event fs u stop a few did more) e =
     never_events s (m + 1) after rest fs u stop more e
 
-never_cluster : (ls : Lines) (s : Script) (t : Option ListRun) (end : End) → ClusterLines ls s t end → end ≢ limited w.Script
+never_cluster : (ls : Lines) (s : Script) (t : Option WorldRun) (end : End) → ClusterLines ls s t end → end ≢ limited w.Script
 never_cluster ls s t end ClusterLines.none_left e = cc
 never_cluster ls s t end (ClusterLines.long number line rest h) e = cc
 never_cluster ls s t end (ClusterLines.skipped number line rest x u stop f h more) e = never_cluster rest x u stop more e
@@ -44,7 +44,7 @@ never_cluster ls s t end (ClusterLines.says_none number line rest cause c none) 
 never_cluster ls s t end (ClusterLines.says number line rest setup es u stop c says more) e =
     never_events setup 0 (start_of setup) rest es u stop more e
 
-never_script : (ls : Lines) (s : Script) (t : Option ListRun) (end : End) → ScriptLines ls s t end → end ≢ limited w.Script
+never_script : (ls : Lines) (s : Script) (t : Option WorldRun) (end : End) → ScriptLines ls s t end → end ≢ limited w.Script
 never_script ls s t end ScriptLines.none_left e = cc
 never_script ls s t end (ScriptLines.long number line rest h) e = cc
 never_script ls s t end (ScriptLines.skipped number line rest x u stop f h more) e = never_script rest x u stop more e
@@ -60,7 +60,7 @@ passes old new w.Line h = h
 
 -- some text ends so
 abbrev pub Ends : List ℕ → End → Type 0
-Ends text end = (s : Script) × (t : Option ListRun) × IsText text s t end
+Ends text end = (s : Script) × (t : Option WorldRun) × IsText text s t end
 
 reads_up_to : (old new : Option (List ℕ)) (text : List ℕ) (end : End) → ReadsAll old new text → Ends text end → ReadsUpTo old new end
 reads_up_to old new text end reads e = (e.0, e.1, record { text = text; reads = reads; is_text = e.2 })
@@ -87,7 +87,7 @@ limit_of old new text (Limit passed) reads limit which e =
 limit_of old new text Memory reads limit which e = absurd (cc)
 
 -- the text decides
-pub ends_with : OneEnd → (text : List ℕ) (s : Script) (t : Option ListRun) (end : End) (error : ScriptError) → IsText text s t end
+pub ends_with : OneEnd → (text : List ℕ) (s : Script) (t : Option WorldRun) (end : End) (error : ScriptError) → IsText text s t end
     → ((line : ℕ) (cause : Cause) → error ≡ Bad line cause → Ends text (refused line cause))
     → ((which : Which) → error ≡ Limit which → Ends text (limited which)) → MayEnd (status_of_script_error error) (status_of end)
 ends_with one text s t end (Bad line cause) is bad limit =
@@ -96,13 +96,13 @@ ends_with one text s t end (Limit which) is bad limit =
     let b = limit which refl in inl (ap status_of (one text b.0 s b.1 t (limited which) end b.2 is).0)
 ends_with one text s t end Memory is bad limit = inr (inl refl)
 
-pub never_refused : OneEnd → (text : List ℕ) (s x : Script) (t u : Option ListRun) (line : ℕ) (cause : Cause) → IsText text s t whole
+pub never_refused : OneEnd → (text : List ℕ) (s x : Script) (t u : Option WorldRun) (line : ℕ) (cause : Cause) → IsText text s t whole
     → IsText text x u (refused line cause) → ⊥
 never_refused one text s x t u line cause is other = differ (one text s x t u whole (refused line cause) is other).0 where
   differ : whole ≡ refused line cause → ⊥
   differ e = cc
 
-pub never_limited : OneEnd → (text : List ℕ) (s x : Script) (t u : Option ListRun) (which : Which) → IsText text s t whole
+pub never_limited : OneEnd → (text : List ℕ) (s x : Script) (t u : Option WorldRun) (which : Which) → IsText text s t whole
     → IsText text x u (limited which) → ⊥
 never_limited one text s x t u which is other = differ (one text s x t u whole (limited which) is other).0 where
   differ : whole ≡ limited which → ⊥

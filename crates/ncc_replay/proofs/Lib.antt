@@ -3,6 +3,7 @@ pub mod Digits
 pub mod Numbers
 pub mod Lines
 pub mod SessionLines
+pub mod RaftLines
 pub mod Scripts
 pub mod DriverRows
 pub mod WorksFit

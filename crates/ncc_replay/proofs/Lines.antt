@@ -35,7 +35,8 @@ use Rattle.ncc_replay.specs.declared.status.Cause.TheVariants.{BadLine, BadBookm
 use Rattle.ncc_world.specs.Events.{is_word, AreOf, MayBegin}
 use Rattle.ncc_world.specs.Setting.{IsSetup}
 use Rattle.ncc_world.specs.declared.event.Event.{Event}
-use Rattle.ncc_world.specs.declared.event.Event.TheVariants.{Time, Put, Get, Apply, Open, Bytes, Close, Session, Work, Up, Down, Pump, Cut}
+use Rattle.ncc_world.specs.declared.event.Event.TheVariants.{Time, Put, Get, Apply, Timeout, Beat, Deliver, Pull, Crash, Open, Bytes, Close}
+use Rattle.ncc_world.specs.declared.event.Event.TheVariants.{Session, Work, Up, Down, Pump, Cut}
 use Rattle.ncc_world.specs.declared.event.Job.{Job}
 use Rattle.ncc_world.specs.declared.event.Job.TheVariants.{Add}
 use Rattle.ncc_world.specs.declared.event.Job.TheVariants as job
@@ -88,6 +89,26 @@ words_no_space cluster (Get member key bs) h = (
 words_no_space cluster (Apply member count) h = (
   literal (codes "apply") (refl, (refl, (refl, (refl, (refl, tt))))),
   (decimal_no_space member (omega (arith, h.0)), (decimal_no_space count h.2, tt)),
+)
+words_no_space cluster (Timeout member) h = (
+  literal (codes "timeout") (refl, (refl, (refl, (refl, (refl, (refl, (refl, tt))))))),
+  (decimal_no_space member (omega (arith, h)), tt),
+)
+words_no_space cluster (Beat member) h = (
+  literal (codes "beat") (refl, (refl, (refl, (refl, tt)))),
+  (decimal_no_space member (omega (arith, h)), tt),
+)
+words_no_space cluster (Crash member) h = (
+  literal (codes "crash") (refl, (refl, (refl, (refl, (refl, tt))))),
+  (decimal_no_space member (omega (arith, h)), tt),
+)
+words_no_space cluster (Deliver message) h = (
+  literal (codes "deliver") (refl, (refl, (refl, (refl, (refl, (refl, (refl, tt))))))),
+  (decimal_no_space message h, tt),
+)
+words_no_space cluster (Pull replica core) h = (
+  literal (codes "pull") (refl, (refl, (refl, (refl, tt)))),
+  (decimal_no_space replica (omega (arith, h.0)), (decimal_no_space core (omega (arith, h.1)), tt)),
 )
 words_no_space cluster (Open member) h = (
   literal (codes "open") (refl, (refl, (refl, (refl, tt)))),
@@ -187,9 +208,9 @@ abbrev pub first_word_of : List (List ℕ) → List ℕ
 first_word_of [] = []
 first_word_of (w ∷ ws) = w
 
--- twice the first letter of the first word and its third, added: each verb has a sum of its own
+-- three times the first letter of the first word, its third, and four times its length, added: each verb has a sum of its own
 abbrev pub first_byte : List (List ℕ) → ℕ
-first_byte words = 2 * get_or (first_word_of words) 0 0 + get_or (first_word_of words) 2 0
+first_byte words = 3 * get_or (first_word_of words) 0 0 + get_or (first_word_of words) 2 0 + 4 * length (first_word_of words)
 
 jobs_one : (a b : Job) → MayBegin a → MayBegin b → job_words a ≡ job_words b → a ≡ b
 jobs_one (Add k x) (Add l y) f g e =
@@ -219,6 +240,22 @@ words_one cluster (Get m k ps) (Get n l qs) f g e =
 words_one cluster (Apply m i) (Apply n j) f g e =
     let members : m ≡ n = decimal_injective m n (omega (arith, f.0)) (omega (arith, g.0)) (cc) in
     let counts : i ≡ j = decimal_injective i j f.2 g.2 (cc) in
+    cc
+words_one cluster (Timeout m) (Timeout n) f g e =
+    let texts : decimal m ≡ decimal n = cc in
+    ap Timeout (decimal_injective m n (omega (arith, f)) (omega (arith, g)) texts)
+words_one cluster (Beat m) (Beat n) f g e =
+    let texts : decimal m ≡ decimal n = cc in
+    ap Beat (decimal_injective m n (omega (arith, f)) (omega (arith, g)) texts)
+words_one cluster (Crash m) (Crash n) f g e =
+    let texts : decimal m ≡ decimal n = cc in
+    ap Crash (decimal_injective m n (omega (arith, f)) (omega (arith, g)) texts)
+words_one cluster (Deliver x) (Deliver y) f g e =
+    let texts : decimal x ≡ decimal y = cc in
+    ap Deliver (decimal_injective x y f g texts)
+words_one cluster (Pull m i) (Pull n j) f g e =
+    let replicas : m ≡ n = decimal_injective m n (omega (arith, f.0)) (omega (arith, g.0)) (cc) in
+    let cores : i ≡ j = decimal_injective i j (omega (arith, f.1)) (omega (arith, g.1)) (cc) in
     cc
 words_one cluster (Open m) (Open n) f g e =
     let texts : decimal m ≡ decimal n = cc in
@@ -304,7 +341,7 @@ bad_bookmark cluster (p ∷ ps) (q ∷ qs) w ws none f e =
 
 -- a line that begins with `time` can say nothing but a `time`, and so for each verb; and no bookmarks can stand behind it
 
-pub not_right : (words : List (List ℕ)) → first_byte words ≢ 340 → first_byte words ≢ 322 → AreRightBut words → ⊥
+pub not_right : (words : List (List ℕ)) → first_byte words ≢ 464 → first_byte words ≢ 437 → AreRightBut words → ⊥
 not_right words put get r = go r.event r.words_are r.presents where
   go : (e : Event) → words ≡ words_of e ++ r.more → MayPresent e → ⊥
   go (Put member key value bs) w h = put (ap first_byte w)
@@ -548,6 +585,11 @@ known_verb Verbs.Time = refl
 known_verb Verbs.Put = refl
 known_verb Verbs.Get = refl
 known_verb Verbs.Apply = refl
+known_verb Verbs.Timeout = refl
+known_verb Verbs.Beat = refl
+known_verb Verbs.Deliver = refl
+known_verb Verbs.Pull = refl
+known_verb Verbs.Crash = refl
 known_verb Verbs.Open = refl
 known_verb Verbs.Bytes = refl
 known_verb Verbs.Close = refl

@@ -4,7 +4,7 @@ use Rattle.std.proofs.Common.{refl, ap, sym, ◌∙◌, subst}
 use Rattle.std.proofs.Common.{arith, inl, inr, codes}
 use Rattle.ncc_world.specs.declared.setup.Setup.{Setup}
 use Rattle.ncc_world.specs.declared.event.Event.{Event}
-use Rattle.ncc_world.specs.Happening.{ListRun, start_of, refusal, Happens, RunsOn}
+use Rattle.ncc_world.specs.Happening.{WorldRun, start_of, refusal, Happens, RunsOn}
 use Rattle.ncc_clients.specs.Reads.{SessionsReadTheirWrites}
 use Rattle.ncc_world.specs.Headline.{EveryRunKeeps, Headline, OneRun, AllMayHappen}
 use Rattle.ncc_world.specs.Showing.{works_of}
@@ -62,26 +62,28 @@ one_known line a b (inr (inr f)) (inr (inr g)) = f.0 ∙ sym g.0
 one_cause : (cluster : ℕ) (line : List ℕ) (a b : Cause) → SaysNone cluster line a → SaysNone cluster line b → a ≡ b
 one_cause cluster line a b f g = one_known line a b (known line a f.cause_is) (known line b g.cause_is)
 
-one_refusal : (r : ListRun) (event other : Event) (a b : Cause) → event ≡ other → IsRefusedFor r event a → IsRefusedFor r other b → a ≡ b
-one_refusal r event other a b e f g =
-    let errors : Some f.error ≡ Some g.error = sym f.refuses ∙ (ap (refusal r) e ∙ g.refuses) in
+one_refusal : (s : Setup) (r : WorldRun) (event other : Event) (a b : Cause) → event ≡ other → IsRefusedFor s r event a
+    → IsRefusedFor s r other b → a ≡ b
+one_refusal s r event other a b e f g =
+    let errors : Some f.error ≡ Some g.error = sym f.refuses ∙ (ap (refusal s r) e ∙ g.refuses) in
     let same : f.error ≡ g.error = cc in
     let causes : Some a ≡ Some b = sym f.cause_is ∙ (ap cause_of same ∙ g.cause_is) in
     cc
 
-allowed_refused : (r : ListRun) (event other : Event) (a : Cause) → event ≡ other → refusal r event ≡ None → IsRefusedFor r other a → ⊥
-allowed_refused r event other a e f g =
-    let none : None ≡ Some g.error = sym f ∙ (ap (refusal r) e ∙ g.refuses) in
+allowed_refused : (s : Setup) (r : WorldRun) (event other : Event) (a : Cause) → event ≡ other → refusal s r event ≡ None
+    → IsRefusedFor s r other a → ⊥
+allowed_refused s r event other a e f g =
+    let none : None ≡ Some g.error = sym f ∙ (ap (refusal s r) e ∙ g.refuses) in
     cc
 
 -- ---- the same lines end in one way
 
-pub record Same (es fs : List (ℕ × Event)) (t u : ListRun) (end other : End) : Type 0 where
+pub record Same (es fs : List (ℕ × Event)) (t u : WorldRun) (end other : End) : Type 0 where
   pub events : es ≡ fs
   pub runs : t ≡ u
   pub ends : end ≡ other
 
-pub one_end_events : OneRun → (s : Setup) (n : ℕ) (r : ListRun) (ls : Lines) (es fs : List (ℕ × Event)) (t u : ListRun) (end other : End)
+pub one_end_events : OneRun → (s : Setup) (n : ℕ) (r : WorldRun) (ls : Lines) (es fs : List (ℕ × Event)) (t u : WorldRun) (end other : End)
     → EventLines s n r ls es t end → EventLines s n r ls fs u other → Same es fs t u end other
 one_end_events one s n r ls es fs t u end other (EventLines.none_left na ra) (EventLines.none_left nb rb) = record {
   events =
@@ -144,14 +146,14 @@ one_end_events one s n r ls es fs t u end other (EventLines.not_allowed na ra nu
       events = refl;
       runs = refl;
       ends = ap
-          (refused numbera) (one_refusal ra eventa eventb causea causeb (says_one s.cluster linea eventa eventb saysa saysb) noa nob);
+          (refused numbera) (one_refusal s ra eventa eventb causea causeb (says_one s.cluster linea eventa eventb saysa saysb) noa nob);
     }
 one_end_events one s n r ls es fs t u end other (EventLines.not_allowed na ra numbera linea lsa eventa causea ca saysa noa)
-    (EventLines.many nb rb numberb lineb lsb eventb ab mb) = absurd (allowed_refused ra eventb eventa causea
+    (EventLines.many nb rb numberb lineb lsb eventb ab mb) = absurd (allowed_refused s ra eventb eventa causea
     (says_one s.cluster linea eventb eventa ab.says saysa) ab.allowed noa)
 one_end_events one s n r ls es fs t u end other (EventLines.not_allowed na ra numbera linea lsa eventa causea ca saysa noa)
     (EventLines.happens nb rb mb numberb lineb lsb eventb esb tb endb ab fewb didb moreb) = absurd
-    (allowed_refused ra eventb eventa causea (says_one s.cluster linea eventb eventa ab.says saysa) ab.allowed noa)
+    (allowed_refused s ra eventb eventa causea (says_one s.cluster linea eventb eventa ab.says saysa) ab.allowed noa)
 one_end_events one s n r ls es fs t u end other (EventLines.many na ra numbera linea lsa eventa aa ma)
     (EventLines.long nb rb numberb lineb lsb hb) = absurd (true_false (is_long linea) hb aa.counts.short)
 one_end_events one s n r ls es fs t u end other (EventLines.many na ra numbera linea lsa eventa aa ma)
@@ -159,7 +161,7 @@ one_end_events one s n r ls es fs t u end other (EventLines.many na ra numbera l
 one_end_events one s n r ls es fs t u end other (EventLines.many na ra numbera linea lsa eventa aa ma)
     (EventLines.says_none nb rb numberb lineb lsb causeb cb noneb) = absurd (noneb.none eventa aa.says)
 one_end_events one s n r ls es fs t u end other (EventLines.many na ra numbera linea lsa eventa aa ma)
-    (EventLines.not_allowed nb rb numberb lineb lsb eventb causeb cb saysb nob) = absurd (allowed_refused ra eventa eventb causeb
+    (EventLines.not_allowed nb rb numberb lineb lsb eventb causeb cb saysb nob) = absurd (allowed_refused s ra eventa eventb causeb
     (says_one s.cluster linea eventa eventb aa.says saysb) aa.allowed nob)
 one_end_events one s n r ls es fs t u end other (EventLines.many na ra numbera linea lsa eventa aa ma)
     (EventLines.many nb rb numberb lineb lsb eventb ab mb) = record { events = refl; runs = refl; ends = refl }
@@ -172,7 +174,7 @@ one_end_events one s n r ls es fs t u end other (EventLines.happens na ra ma num
 one_end_events one s n r ls es fs t u end other (EventLines.happens na ra ma numbera linea lsa eventa esa ta enda aa fewa dida morea)
     (EventLines.says_none nb rb numberb lineb lsb causeb cb noneb) = absurd (noneb.none eventa aa.says)
 one_end_events one s n r ls es fs t u end other (EventLines.happens na ra ma numbera linea lsa eventa esa ta enda aa fewa dida morea)
-    (EventLines.not_allowed nb rb numberb lineb lsb eventb causeb cb saysb nob) = absurd (allowed_refused ra eventa eventb causeb
+    (EventLines.not_allowed nb rb numberb lineb lsb eventb causeb cb saysb nob) = absurd (allowed_refused s ra eventa eventb causeb
     (says_one s.cluster linea eventa eventb aa.says saysb) aa.allowed nob)
 one_end_events one s n r ls es fs t u end other (EventLines.happens na ra ma numbera linea lsa eventa esa ta enda aa fewa dida morea)
     (EventLines.many nb rb numberb lineb lsb eventb ab mb) = absurd (omega (arith, fewa, mb))
@@ -232,12 +234,12 @@ no_cluster_none line c.WrongRole s h says = h
 no_cluster_none line c.BackInTime s h says = h
 no_cluster_none line c.Busy s h says = h
 
-pub record SameScript (s x : Script) (t u : Option ListRun) (end other : End) : Type 0 where
+pub record SameScript (s x : Script) (t u : Option WorldRun) (end other : End) : Type 0 where
   pub scripts : s ≡ x
   pub runs : t ≡ u
   pub ends : end ≡ other
 
-pub one_end_cluster : OneRun → (ls : Lines) (s x : Script) (t u : Option ListRun) (end other : End) → ClusterLines ls s t end
+pub one_end_cluster : OneRun → (ls : Lines) (s x : Script) (t u : Option WorldRun) (end other : End) → ClusterLines ls s t end
     → ClusterLines ls x u other → SameScript s x t u end other
 one_end_cluster one ls s x t u end other ClusterLines.none_left ClusterLines.none_left = record { scripts = refl; runs = refl; ends = refl }
 one_end_cluster one ls s x t u end other (ClusterLines.long numbera linea lsa ha) (ClusterLines.long numberb lineb lsb hb) =
@@ -287,7 +289,7 @@ one_end_cluster one ls s x t u end other (ClusterLines.says numbera linea lsa se
       ends = rest.ends;
     }
 
-pub one_end_script : OneRun → (ls : Lines) (s x : Script) (t u : Option ListRun) (end other : End) → ScriptLines ls s t end
+pub one_end_script : OneRun → (ls : Lines) (s x : Script) (t u : Option WorldRun) (end other : End) → ScriptLines ls s t end
     → ScriptLines ls x u other → SameScript s x t u end other
 one_end_script one ls s x t u end other ScriptLines.none_left ScriptLines.none_left = record { scripts = refl; runs = refl; ends = refl }
 one_end_script one ls s x t u end other (ScriptLines.long numbera linea lsa ha) (ScriptLines.long numberb lineb lsb hb) =
@@ -329,7 +331,7 @@ texts_end one text s x t u end other f g =
 
 -- ---- the events of a script run as they are said
 
-pub events_run : (s : Setup) (n : ℕ) (r : ListRun) (ls : Lines) (es : List (ℕ × Event)) (t : ListRun) (end : End)
+pub events_run : (s : Setup) (n : ℕ) (r : WorldRun) (ls : Lines) (es : List (ℕ × Event)) (t : WorldRun) (end : End)
     → EventLines s n r ls es t end → RunsOn s es r t
 events_run s n r ls es t end (EventLines.none_left na ra) = refl
 events_run s n r ls es t end (EventLines.long na ra numbera linea lsa ha) = refl
@@ -344,7 +346,7 @@ events_run s n r ls es t end (EventLines.happens na ra ma numbera linea lsa even
 )
 
 -- a world takes each of the events
-pub events_may_happen : (s : Setup) (n : ℕ) (r : ListRun) (ls : Lines) (es : List (ℕ × Event)) (t : ListRun) (end : End)
+pub events_may_happen : (s : Setup) (n : ℕ) (r : WorldRun) (ls : Lines) (es : List (ℕ × Event)) (t : WorldRun) (end : End)
     → EventLines s n r ls es t end → AllMayHappen s es
 events_may_happen s n r ls es t end (EventLines.none_left na ra) = tt
 events_may_happen s n r ls es t end (EventLines.long na ra number line lsa h) = tt
@@ -356,12 +358,12 @@ events_may_happen s n r ls es t end (EventLines.many na ra number line lsa event
 events_may_happen s n r ls es t end (EventLines.happens na ra ma number line lsa event esa ta enda a few did more) =
     (may_happen s.cluster line event a.says a.counts.short, events_may_happen s (na + 1) ma lsa esa ta enda more)
 
-pub record RunsAsSaid (s : Script) (t : Option ListRun) (setup : Setup) (r : ListRun) : Type 0 where
+pub record RunsAsSaid (s : Script) (t : Option WorldRun) (setup : Setup) (r : WorldRun) : Type 0 where
   pub allowed : IsSetup setup
   pub runs : RunsOn setup s.events (start_of setup) r
   pub may_happen : AllMayHappen setup s.events
 
-cluster_run : (ls : Lines) (s : Script) (t : Option ListRun) (end : End) (setup : Setup) (r : ListRun) → ClusterLines ls s t end
+cluster_run : (ls : Lines) (s : Script) (t : Option WorldRun) (end : End) (setup : Setup) (r : WorldRun) → ClusterLines ls s t end
     → s.setup ≡ Some setup → t ≡ Some r → RunsAsSaid s t setup r
 cluster_run ls s t end setup r ClusterLines.none_left e f = absurd (cc)
 cluster_run ls s t end setup r (ClusterLines.long number line rest h) e f = absurd (cc)
@@ -377,7 +379,7 @@ cluster_run ls s t end setup r (ClusterLines.says number line rest it es u stop 
       may_happen = subst (λ v. AllMayHappen v es) setups (events_may_happen it 0 (start_of it) rest es u stop more);
     }
 
-script_run : (ls : Lines) (s : Script) (t : Option ListRun) (end : End) (setup : Setup) (r : ListRun) → ScriptLines ls s t end
+script_run : (ls : Lines) (s : Script) (t : Option WorldRun) (end : End) (setup : Setup) (r : WorldRun) → ScriptLines ls s t end
     → s.setup ≡ Some setup → t ≡ Some r → RunsAsSaid s t setup r
 script_run ls s t end setup r ScriptLines.none_left e f = absurd (cc)
 script_run ls s t end setup r (ScriptLines.long number line rest h) e f = absurd (cc)
@@ -386,20 +388,20 @@ script_run ls s t end setup r (ScriptLines.other number line rest c differs) e f
 script_run ls s t end setup r (ScriptLines.is_header number line rest x u stop c is more) e f = cluster_run rest x u stop setup r more e f
 
 -- the promise holds of each script
-pub text_keeps : EveryRunKeeps → (text : List ℕ) (s : Script) (t : Option ListRun) (end : End) → IsText text s t end → (setup : Setup)
-    (r : ListRun) → s.setup ≡ Some setup → t ≡ Some r → Headline setup s.events r
+pub text_keeps : EveryRunKeeps → (text : List ℕ) (s : Script) (t : Option WorldRun) (end : End) → IsText text s t end → (setup : Setup)
+    (r : WorldRun) → s.setup ≡ Some setup → t ≡ Some r → Headline setup s.events r
 text_keeps keeps text s t end is setup r e f =
     let run = script_run (numbered text) s t end setup r is e f in
     keeps setup s.events r run.allowed run.runs
 
 -- and sessions read their writes in it
-pub text_reads : EveryRunKeeps → (text : List ℕ) (s : Script) (t : Option ListRun) (end : End) → IsText text s t end → (setup : Setup)
-    (r : ListRun) → s.setup ≡ Some setup → t ≡ Some r → SessionsReadTheirWrites r
+pub text_reads : EveryRunKeeps → (text : List ℕ) (s : Script) (t : Option WorldRun) (end : End) → IsText text s t end → (setup : Setup)
+    (r : WorldRun) → s.setup ≡ Some setup → t ≡ Some r → SessionsReadTheirWrites r
 text_reads keeps text s t end is setup r e f =
     let run = script_run (numbered text) s t end setup r is e f in
     (keeps setup s.events r run.allowed run.runs).sessions_read_their_writes run.may_happen
 
 -- the rows of the works that have ended in it have a spelling
-pub text_fits : (text : List ℕ) (s : Script) (t : Option ListRun) (end : End) → IsText text s t end
+pub text_fits : (text : List ℕ) (s : Script) (t : Option WorldRun) (end : End) → IsText text s t end
     → OfRun (λ setup events run. WorksFit (works_of run)) s t
 text_fits text s t end is = λ setup r e f. works_fit setup s.events r (script_run (numbered text) s t end setup r is e f).runs

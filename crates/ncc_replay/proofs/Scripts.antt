@@ -12,13 +12,14 @@ use Rattle.std.proofs.lemmas.List.Sums.{fails_before_first}
 use Rattle.std.proofs.lemmas.List.Quantifiers.{position-Some}
 use Rattle.ncc_world.specs.declared.setup.Setup.{Setup}
 use Rattle.ncc_world.specs.declared.event.Event.{Event}
-use Rattle.ncc_world.specs.declared.event.Event.TheVariants.{Time, Put, Get, Apply, Open, Bytes, Close, Session, Work, Up, Down, Pump, Cut}
+use Rattle.ncc_world.specs.declared.event.Event.TheVariants.{Time, Put, Get, Apply, Timeout, Beat, Deliver, Pull, Crash, Open, Bytes, Close}
+use Rattle.ncc_world.specs.declared.event.Event.TheVariants.{Session, Work, Up, Down, Pump, Cut}
 use Rattle.ncc_world.specs.declared.error.WorldError.{WorldError}
 use Rattle.ncc_world.specs.declared.error.WorldError.TheVariants as w
 use Rattle.ncc_world.specs.declared.error.Which.{Which}
 use Rattle.ncc_world.specs.declared.error.Which.TheVariants.{Line as LineLimit, Events as EventsLimit}
 use Rattle.ncc_world.specs.Events.{MayHappen, CountsSome}
-use Rattle.ncc_world.specs.Happening.{ListRun, start_of, refusal, Happens}
+use Rattle.ncc_world.specs.Happening.{WorldRun, start_of, refusal, Happens}
 use Rattle.ncc_world.specs.World.{Kept, Stands, alive, past, is_refusal}
 use Rattle.ncc_replay.specs.Line.{Says, SaysNone, SaysCluster, FitsLimit, words_of, header, is_skipped}
 use Rattle.ncc_replay.specs.Script.{Script, whole, refused, limited, Lines, lines_of, Counts, Accepted, EventLines}
@@ -155,7 +156,7 @@ cluster_ends all rest number line cause c none g =
 -- at an event
 pub event_goes : (all rest : Lines) (count number : ℕ) (line : List ℕ) (world new : Kept) (event : Event) → Counts line
     → Says world.setup.cluster line event → count < max_events
-    → ((r : ListRun) → Stands world r → (t : ListRun) × Happens world.setup number event r t × Stands new t) → new.setup ≡ world.setup
+    → ((r : WorldRun) → Stands world r → (t : WorldRun) × Happens world.setup number event r t × Stands new t) → new.setup ≡ world.setup
     → Reached all ((number, line) ∷ rest) count world → Reached all rest (count + 1) new
 event_goes all rest count number line world new event c says few happens same g =
     let h = happens g.run g.stands in
@@ -181,14 +182,14 @@ event_goes all rest count number line world new event c says few happens same g 
 -- at an event that is one too many
 pub many_ends : (all rest : Lines) (count number : ℕ) (line : List ℕ) (world new : Kept) (event : Event) → Counts line
     → Says world.setup.cluster line event → max_events ≤ count
-    → ((r : ListRun) → Stands world r → (t : ListRun) × Happens world.setup number event r t × Stands new t)
+    → ((r : WorldRun) → Stands world r → (t : WorldRun) × Happens world.setup number event r t × Stands new t)
     → Reached all ((number, line) ∷ rest) count world → EndsAt all (limited EventsLimit)
 many_ends all rest count number line world new event c says many happens g =
     let h = happens g.run g.stands in
     let accepted : Accepted g.setup g.run line event = record {
       counts = c;
       says = subst (λ (x : Setup). Says x.cluster line event) g.setup_is says;
-      allowed = h.1.allowed;
+      allowed = subst (λ (x : Setup). refusal x g.run event ≡ None) g.setup_is h.1.allowed;
     } in
     let said : Script = record { setup = Some g.setup; events = g.done ++ [] } in
     (said, Some g.run, g.goes_on [] g.run (limited EventsLimit) (EventLines.many count g.run number line rest event accepted many))
@@ -206,7 +207,7 @@ none_ends all rest count number line world cause c none g =
 
 -- at an event that the world refuses
 pub refused_ends : (all rest : Lines) (count number : ℕ) (line : List ℕ) (world : Kept) (event : Event) (error : WorldError) (cause : Cause)
-    → Counts line → Says world.setup.cluster line event → ((r : ListRun) → Stands world r → refusal r event ≡ Some error)
+    → Counts line → Says world.setup.cluster line event → ((r : WorldRun) → Stands world r → refusal world.setup r event ≡ Some error)
     → cause_of error ≡ Some cause → Reached all ((number, line) ∷ rest) count world → EndsAt all (refused number cause)
 refused_ends all rest count number line world event error cause c says refuses why g =
     let said : Script = record { setup = Some g.setup; events = g.done ++ [] } in (
@@ -214,7 +215,11 @@ refused_ends all rest count number line world event error cause c says refuses w
       Some g.run,
       g.goes_on [] g.run (refused number cause) (EventLines.not_allowed count g.run number line rest event cause c
           (subst (λ (x : Setup). Says x.cluster line event) g.setup_is says)
-          (record { error = error; refuses = refuses g.run g.stands; cause_is = why })),
+          (record {
+            error = error;
+            refuses = subst (λ (x : Setup). refusal x g.run event ≡ Some error) g.setup_is (refuses g.run g.stands);
+            cause_is = why;
+          })),
     )
 
 -- a cause stands for a refusal
@@ -237,7 +242,7 @@ not_past which e = cc
 pub error_ends : (all rest : Lines) (count number : ℕ) (line : List ℕ) (world : Kept) (event : Event) (error : WorldError)
     (result : ScriptError)
     → Counts line → Says world.setup.cluster line event
-    → ((r : ListRun) → Stands world r → IsTrue (is_refusal error) → refusal r event ≡ Some error)
+    → ((r : WorldRun) → Stands world r → IsTrue (is_refusal error) → refusal world.setup r event ≡ Some error)
     → ((which : Which) → error ≡ w.Limit which → world.standing ≡ past which)
     → ((at : ℕ) (cause : Cause) → result ≡ Bad at cause → (cause_of error ≡ Some cause) × (at ≡ number))
     → ((which : Which) → result ≡ Limit which → error ≡ w.Limit which)
@@ -263,7 +268,7 @@ line_ends all rest count number line world (Bad at cause) c bad limits g =
 -- ---- no line is left
 
 pub all_read : (all : Lines) (count : ℕ) (world : Kept) → Reached all [] count world
-    → (says : Script) × (t : Option ListRun) × ScriptLines all says t whole × IsRunOf (Some world) says t
+    → (says : Script) × (t : Option WorldRun) × ScriptLines all says t whole × IsRunOf (Some world) says t
 all_read all count world g =
     let said : Script = record { setup = Some g.setup; events = g.done ++ [] } in (
       said,
@@ -273,12 +278,12 @@ all_read all count world g =
     )
 
 pub no_cluster_read : (all : Lines) → GoesOn all [] Cluster
-    → (says : Script) × (t : Option ListRun) × ScriptLines all says t whole × IsRunOf None says t
+    → (says : Script) × (t : Option WorldRun) × ScriptLines all says t whole × IsRunOf None says t
 no_cluster_read all g =
     let none : Script = record { setup = None; events = [] } in (none, None, g none None whole ClusterLines.none_left, (refl, refl))
 
 pub no_header_read : (all : Lines) → GoesOn all [] Header
-    → (says : Script) × (t : Option ListRun) × ScriptLines all says t whole × IsRunOf None says t
+    → (says : Script) × (t : Option WorldRun) × ScriptLines all says t whole × IsRunOf None says t
 no_header_read all g =
     let none : Script = record { setup = None; events = [] } in (none, None, g none None whole ScriptLines.none_left, (refl, refl))
 
@@ -307,6 +312,11 @@ may_happen cluster line (Get member key bs) h f = (
   omega (arith, ltb-false 2_200_000 (length line) f, ap length h.1, join_len (words_of (Get member key bs)), length-map bs text_of),
 )
 may_happen cluster line (Apply member count) h f = h.0.1
+may_happen cluster line (Timeout member) h f = tt
+may_happen cluster line (Beat member) h f = tt
+may_happen cluster line (Deliver message) h f = tt
+may_happen cluster line (Pull replica core) h f = tt
+may_happen cluster line (Crash member) h f = tt
 may_happen cluster line (Open member) h f = tt
 may_happen cluster line (Bytes conn bytes) h f = (h.0.1, h.0.2)
 may_happen cluster line (Close conn) h f = tt

@@ -31,7 +31,7 @@ use Rattle.ncc_replay.specs.Report.{fact_line, work_line, conn_line, out_line, m
 use Rattle.ncc_replay.specs.Script.{Script}
 use Rattle.ncc_store.specs.declared.step.Step.{Step}
 use Rattle.ncc_world.specs.Requests.{put_source}
-use Rattle.ncc_world.specs.Happening.{ListRun}
+use Rattle.ncc_world.specs.Happening.{WorldRun}
 use Rattle.ncc_world.specs.Showing.{members_of, conns_of, works_of}
 use Rattle.ncc_world.specs.declared.setup.Setup.{Setup}
 use Rattle.std.proofs.Common.{Result, Ok, Err, OnOk}
@@ -253,7 +253,7 @@ history_made h items n x n1 n2 n3 f g e1 e2 e3 =
       four : (x a b c d : List ℕ) → ((x ++ (a ++ b)) ++ c) ++ d ≡ x ++ (a ++ (b ++ (c ++ d)))
       four x a b c d = simp append_assoc
 
-pub report_made : (s : Setup) (r : ListRun) (x n1 n2 n3 n4 n5 n6 n7 n8 : List ℕ) → n1 ≡ x ++ codes "ncc-report 1\n"
+pub report_made : (s : Setup) (r : WorldRun) (x n1 n2 n3 n4 n5 n6 n7 n8 : List ℕ) → n1 ≡ x ++ codes "ncc-report 1\n"
     → n2 ≡ n1 ++ flat_map fact_line r.told → n3 ≡ n2 ++ flat_map work_line (works_of r)
     → n4 ≡ n3 ++ flat_map conn_line (conns_of s r) → n5 ≡ n4 ++ flat_map out_line (conns_of s r)
     → n6 ≡ n5 ++ flat_map member_line (members_of s r) → n7 ≡ n6 ++ history_text r.history → n8 ≡ n7 ++ codes "end\n"
@@ -270,11 +270,11 @@ report_made s r x n1 n2 n3 n4 n5 n6 n7 n8 e1 e2 e3 e4 e5 e6 e7 e8 =
           e8 ∙ (ap (λ l. l ++ h) (e7 ∙ ap (λ l. l ++ g) (e6 ∙ ap (λ l. l ++ f) (e5 ∙ ap (λ l. l ++ e) (e4 ∙ ap (λ l. l ++ d)
           (e3 ∙ ap (λ l. l ++ c) (e2 ∙ ap (λ l. l ++ b) e1)))))) ∙ simp append_assoc)
 
-pub text_some : (s : Script) (t : Option ListRun) (setup : Setup) (r : ListRun) → s.setup ≡ Some setup → t ≡ Some r
+pub text_some : (s : Script) (t : Option WorldRun) (setup : Setup) (r : WorldRun) → s.setup ≡ Some setup → t ≡ Some r
     → report_of setup r ≡ report_text s t
 text_some s t setup r e f = sym (ap (λ o. report_by o t) e ∙ ap (report_by (Some setup)) f)
 
-pub text_none : (s : Script) (t : Option ListRun) → s.setup ≡ None → no_report ≡ report_text s t
+pub text_none : (s : Script) (t : Option WorldRun) → s.setup ≡ None → no_report ≡ report_text s t
 text_none s t e = sym (ap (λ o. report_by o t) e)
 
 pub on_ok_then : {T E P Q : Type 0} (r : Result T E) → OnOk r P → (P → Q) → OnOk r Q

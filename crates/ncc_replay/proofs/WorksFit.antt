@@ -19,13 +19,13 @@ use Rattle.ncc_clients.specs.Drives.{feeds_one, feeds, closes_one, closes, drive
 use Rattle.ncc_clients.specs.Drives.{does_by, does, does_all, with_input, more, knows, does_more, joined, last_of, follows_on}
 use Rattle.ncc_clients.specs.Drives.{told_input, begins_by, feeds_some, lifts_by, lifts, comes_down, falls_by, falls}
 use Rattle.ncc_clients.specs.Drives.{cuts_by, cuts, is_due, woken, wakes_from, waits_above, lift_to, all_bytes, less, up_at, rises}
-use Rattle.ncc_clients.specs.Drives.{descends, Pumps}
+use Rattle.ncc_clients.specs.Drives.{descends, loses_from, Pumps}
 use Rattle.ncc_world.specs.declared.setup.Setup.{Setup}
 use Rattle.ncc_world.specs.declared.event.Event.{Event}
 use Rattle.ncc_world.specs.declared.event.Event.TheVariants as v
 use Rattle.ncc_world.specs.declared.seen.WorkSeen.{WorkSeen}
 use Rattle.ncc_world.specs.Setting.{cluster_of}
-use Rattle.ncc_world.specs.Happening.{ListRun, start_of, own, Steps, RunsOn}
+use Rattle.ncc_world.specs.Happening.{WorldRun, start_of, own, Steps, RunsOn}
 use Rattle.ncc_world.specs.Showing.{work_seen, works_of}
 use Rattle.ncc_replay.specs.Report.{result_fits, WorksFit}
 use Rattle.ncc_replay.proofs.DriverRows.{IsFine, AreFine, acts_fine, fine_behind}
@@ -173,6 +173,13 @@ module _ {S : Type 0} (C : Cluster S) where
       wakes_fit line (suc k) ds (if is_due r.now d.wakes then woken C line k r d else r)
       (due_fit (is_due r.now d.wakes) (woken C line k r d) r (woken_fit line k r d h) h)
 
+  losing_fit : (line k : ℕ) (lost : Option Link → Bool) (ds : List Driver) (r : Run S) → Fit r → Fit (loses_from C line k lost ds r)
+  unfolding loses_from
+  losing_fit line k lost [] r h = h
+  losing_fit line k lost (d ∷ ds) r h =
+      losing_fit line (suc k) lost ds (if lost d.link then cuts C line k r (driver_at r k) else r)
+      (due_fit (lost d.link) (cuts C line k r (driver_at r k)) r (cuts_fit line k r (driver_at r k) h) h)
+
   -- ---- turns
 
   proposed_fit : (line : ℕ) (r : Run S) (at : ℕ) (c : Client) (p : Proposed S) → Fit r → Fit (proposed C line r at c p)
@@ -200,14 +207,19 @@ module _ {S : Type 0} (C : Cluster S) where
   pumps_fit line k limit r s (Pumps.Falls _ _ _ none some rest) h =
       pumps_fit line k limit (descends C line k r) s rest (falls_fit line k r (driver_at r k) all_bytes h)
 
--- ---- a run over one list
+-- ---- a run
 
-own_fit : (s : Setup) (line : ℕ) (e : Event) (r : ListRun) → Fit (cluster_of s) r → Fit (cluster_of s) (own s line e r)
+own_fit : (s : Setup) (line : ℕ) (e : Event) (r : WorldRun) → Fit (cluster_of s) r → Fit (cluster_of s) (own s line e r)
 unfolding own
 own_fit s line (v.Time to) r h = wakes_fit (cluster_of s) line 0 r.driving.drivers (record r { now = to }) h
 own_fit s line (v.Put member key value bookmarks) r h = feeds_fit (cluster_of s) (opened r member false) (length r.clients) _ h
 own_fit s line (v.Get member key bookmarks) r h = feeds_fit (cluster_of s) (opened r member false) (length r.clients) _ h
 own_fit s line (v.Apply member count) r h = h
+own_fit s line (v.Timeout member) r h = h
+own_fit s line (v.Beat member) r h = h
+own_fit s line (v.Deliver message) r h = h
+own_fit s line (v.Pull replica core) r h = h
+own_fit s line (v.Crash member) r h = losing_fit (cluster_of s) line 0 _ r.driving.drivers _ h
 own_fit s line (v.Open member) r h = h
 own_fit s line (v.Bytes conn bytes) r h = feeds_fit (cluster_of s) r (conn - 1) bytes h
 own_fit s line (v.Close conn) r h = closes_fit (cluster_of s) r (conn - 1) h
@@ -218,13 +230,13 @@ own_fit s line (v.Down session count) r h = falls_fit (cluster_of s) line (sessi
 own_fit s line (v.Pump session requests) r h = h
 own_fit s line (v.Cut session) r h = cuts_fit (cluster_of s) line (session - 1) r (driver_at r (session - 1)) h
 
-steps_fit : (s : Setup) (line : ℕ) (e : Event) (r t : ListRun) → Steps s line e r t → Fit (cluster_of s) r → Fit (cluster_of s) t
+steps_fit : (s : Setup) (line : ℕ) (e : Event) (r t : WorldRun) → Steps s line e r t → Fit (cluster_of s) r → Fit (cluster_of s) t
 steps_fit s line (v.Down session count) r t steps h =
     subst (Fit (cluster_of s)) (sym steps.1) (own_fit s line (v.Down session count) r h)
 steps_fit s line (v.Pump session requests) r t steps h = pumps_fit (cluster_of s) line (session - 1) requests r t steps.1 h
 steps_fit s line e r t steps h = subst (Fit (cluster_of s)) (sym steps) (own_fit s line e r h)
 
-run_fit : (s : Setup) (es : List (ℕ × Event)) (r t : ListRun) → RunsOn s es r t → Fit (cluster_of s) r → Fit (cluster_of s) t
+run_fit : (s : Setup) (es : List (ℕ × Event)) (r t : WorldRun) → RunsOn s es r t → Fit (cluster_of s) r → Fit (cluster_of s) t
 run_fit s [] r t run h = subst (Fit (cluster_of s)) run h
 run_fit s (e ∷ es) r t run h =
     let happens = run.1 in
@@ -236,7 +248,7 @@ seen_fit [] h = tt
 seen_fit (e ∷ es) h = (h.0, seen_fit es h.1)
 
 -- of each run from its beginning
-pub works_fit : (s : Setup) (es : List (ℕ × Event)) (t : ListRun) → RunsOn s es (start_of s) t → WorksFit (works_of t)
+pub works_fit : (s : Setup) (es : List (ℕ × Event)) (t : WorldRun) → RunsOn s es (start_of s) t → WorksFit (works_of t)
 works_fit s es t run =
     All-from_recursion (λ (w : WorkSeen). result_fits w.result ≡ true) (works_of t)
     (seen_fit t.driving.ended (run_fit s es (start_of s) t run tt))

@@ -366,6 +366,12 @@ class World:
             raise Refused("wrong kind of member")
         self.at[member] = min(self.at[member] + count, len(self.history))
 
+    def do_timeout(self, *words):
+        """Over one list nothing happens that members over Raft do."""
+        raise Refused("not in this world")
+
+    do_beat = do_deliver = do_pull = do_crash = do_timeout
+
     def do_open(self, member, opener="open"):
         self.known(member)
         number = len(self.conns) + 1
@@ -587,7 +593,8 @@ def report(world):
 # Scripts.
 
 # What stands behind a verb, a letter for each word; `*` is for bookmarks.
-FORMS = {"time": ["N"], "put": ["MWW*"], "get": ["MW*"], "apply": ["MP"], "open": ["M"], "bytes": ["NH"], "close": ["N"],
+FORMS = {"time": ["N"], "put": ["MWW*"], "get": ["MW*"], "apply": ["MP"], "timeout": ["M"], "beat": ["M"], "deliver": ["N"],
+         "pull": ["MM"], "crash": ["M"], "open": ["M"], "bytes": ["NH"], "close": ["N"],
          "session": ["N"], "work": ["NaWI", "NpWW", "NgW"], "up": ["NN"], "down": ["NN"], "pump": ["N", "NP"], "cut": ["N"]}
 RANGES = {"N": (0, U64), "P": (1, U64), "M": (0, 255), "I": (-2 ** 63, 2 ** 63 - 1)}
 JOBS = {"a": b"add", "p": b"put", "g": b"get"}

@@ -10,7 +10,8 @@ use Rattle.ncc_bookmark.specs.Spelling.{text_of}
 use Rattle.ncc_world.specs.declared.setup.Setup.{Setup}
 use Rattle.ncc_world.specs.declared.setup.Kind.TheVariants.{List as IsList}
 use Rattle.ncc_world.specs.declared.event.Event.{Event}
-use Rattle.ncc_world.specs.declared.event.Event.TheVariants.{Time, Put, Get, Apply, Open, Bytes, Close, Session, Work, Up, Down, Pump, Cut}
+use Rattle.ncc_world.specs.declared.event.Event.TheVariants.{Time, Put, Get, Apply, Timeout, Beat, Deliver, Pull, Crash, Open, Bytes, Close}
+use Rattle.ncc_world.specs.declared.event.Event.TheVariants.{Session, Work, Up, Down, Pump, Cut}
 use Rattle.ncc_world.specs.declared.event.Job.{Job}
 use Rattle.ncc_world.specs.declared.event.Job.TheVariants.{Add}
 use Rattle.ncc_world.specs.declared.event.Job.TheVariants as job
@@ -54,6 +55,11 @@ words_of (Time to) = codes "time" ∷ decimal to ∷ []
 words_of (Put member key value bookmarks) = codes "put" ∷ decimal member ∷ key ∷ value ∷ bookmark_words bookmarks
 words_of (Get member key bookmarks) = codes "get" ∷ decimal member ∷ key ∷ bookmark_words bookmarks
 words_of (Apply member count) = codes "apply" ∷ decimal member ∷ decimal count ∷ []
+words_of (Timeout member) = codes "timeout" ∷ decimal member ∷ []
+words_of (Beat member) = codes "beat" ∷ decimal member ∷ []
+words_of (Deliver message) = codes "deliver" ∷ decimal message ∷ []
+words_of (Pull replica core) = codes "pull" ∷ decimal replica ∷ decimal core ∷ []
+words_of (Crash member) = codes "crash" ∷ decimal member ∷ []
 words_of (Open member) = codes "open" ∷ decimal member ∷ []
 words_of (Bytes conn bytes) = codes "bytes" ∷ decimal conn ∷ hex bytes ∷ []
 words_of (Close conn) = codes "close" ∷ decimal conn ∷ []
@@ -76,6 +82,11 @@ Spellable cluster (Put member key value bookmarks) = (member < 2 ^ 8) × (is_wor
     × AreOf cluster bookmarks
 Spellable cluster (Get member key bookmarks) = (member < 2 ^ 8) × (is_word key ≡ true) × AreOf cluster bookmarks
 Spellable cluster (Apply member count) = (member < 2 ^ 8) × (1 ≤ count) × (count < 2 ^ 64)
+Spellable cluster (Timeout member) = member < 2 ^ 8
+Spellable cluster (Beat member) = member < 2 ^ 8
+Spellable cluster (Deliver message) = message < 2 ^ 64
+Spellable cluster (Pull replica core) = (replica < 2 ^ 8) × (core < 2 ^ 8)
+Spellable cluster (Crash member) = member < 2 ^ 8
 Spellable cluster (Open member) = member < 2 ^ 8
 Spellable cluster (Bytes conn bytes) =
     (conn < 2 ^ 64) × (1 ≤ length bytes) × (length bytes ≤ 1_048_576) × All (λ b. b < 2 ^ 8) bytes
@@ -118,8 +129,9 @@ first_word line = before_first (λ b. b == 32) line
 -- the first words that a line behind the `cluster` line may have
 abbrev pub verbs : List (List ℕ)
 verbs =
-    codes "cluster" ∷ codes "time" ∷ codes "put" ∷ codes "get" ∷ codes "apply" ∷ codes "open" ∷ codes "bytes" ∷ codes "close"
-    ∷ codes "session" ∷ codes "work" ∷ codes "up" ∷ codes "down" ∷ codes "pump" ∷ codes "cut" ∷ []
+    codes "cluster" ∷ codes "time" ∷ codes "put" ∷ codes "get" ∷ codes "apply" ∷ codes "timeout" ∷ codes "beat" ∷ codes "deliver"
+    ∷ codes "pull" ∷ codes "crash" ∷ codes "open" ∷ codes "bytes" ∷ codes "close" ∷ codes "session"
+    ∷ codes "work" ∷ codes "up" ∷ codes "down" ∷ codes "pump" ∷ codes "cut" ∷ []
 
 abbrev pub is_verb : List ℕ → Bool
 is_verb word = list_any (bytes_eq word) verbs

@@ -3,7 +3,7 @@ use Rattle.std.specs.Prelude.{◌≡◌, ℕ, List, ◌++◌, Option, None, Some
 use Rattle.std.specs.List.{enumerate_from}
 use Rattle.ncc_world.specs.declared.setup.Setup.{Setup}
 use Rattle.ncc_world.specs.declared.event.Event.{Event}
-use Rattle.ncc_world.specs.Happening.{ListRun}
+use Rattle.ncc_world.specs.Happening.{WorldRun}
 use Rattle.ncc_world.specs.World.{Kept, Stands}
 use Rattle.ncc_replay.specs.Script.{Script, End, refused, limited, Lines, lines_of, EventLines, ClusterLines, ScriptLines}
 use Rattle.ncc_replay.specs.declared.script.Progress.{Progress}
@@ -18,22 +18,22 @@ lines_from number text = enumerate_from number (lines_of text)
 -- so many lines were events, the world stands for their run, and the lines that are left go on from there
 pub record Reached (all rest : Lines) (count : ℕ) (world : Kept) : Type 0 where
   pub setup : Setup
-  pub run : ListRun
+  pub run : WorldRun
   pub done : List (ℕ × Event)
   pub setup_is : world.setup ≡ setup
   pub stands : Stands world run
-  pub goes_on : (es : List (ℕ × Event)) (t : ListRun) (end : End) → EventLines setup count run rest es t end
+  pub goes_on : (es : List (ℕ × Event)) (t : WorldRun) (end : End) → EventLines setup count run rest es t end
       → ScriptLines all (record { setup = Some setup; events = done ++ es }) (Some t) end
 
 -- of all the lines these are left, and what they are makes of all lines what it makes
 abbrev pub GoesOn : Lines → Lines → Progress → Type 0
-GoesOn all rest Header = (s : Script) (t : Option ListRun) (end : End) → ScriptLines rest s t end → ScriptLines all s t end
-GoesOn all rest Cluster = (s : Script) (t : Option ListRun) (end : End) → ClusterLines rest s t end → ScriptLines all s t end
+GoesOn all rest Header = (s : Script) (t : Option WorldRun) (end : End) → ScriptLines rest s t end → ScriptLines all s t end
+GoesOn all rest Cluster = (s : Script) (t : Option WorldRun) (end : End) → ClusterLines rest s t end → ScriptLines all s t end
 GoesOn all rest (Events count world) = Reached all rest count world
 
 -- all lines end so
 abbrev pub EndsAt : Lines → End → Type 0
-EndsAt all end = (s : Script) × (t : Option ListRun) × ScriptLines all s t end
+EndsAt all end = (s : Script) × (t : Option WorldRun) × ScriptLines all s t end
 
 abbrev pub EndsSo : Lines → ScriptError → Type 0
 EndsSo all (Bad line cause) = EndsAt all (refused line cause)
@@ -41,6 +41,6 @@ EndsSo all (Limit which) = EndsAt all (limited which)
 EndsSo all Memory = Unit {0}
 
 -- the world stands for the run of the script, where the script has a cluster
-abbrev pub IsRunOf : Option Kept → Script → Option ListRun → Type 0
+abbrev pub IsRunOf : Option Kept → Script → Option WorldRun → Type 0
 IsRunOf None s t = (s.setup ≡ None) × (t ≡ None)
-IsRunOf (Some world) s t = (r : ListRun) × (s.setup ≡ Some world.setup) × (t ≡ Some r) × Stands world r
+IsRunOf (Some world) s t = (r : WorldRun) × (s.setup ≡ Some world.setup) × (t ≡ Some r) × Stands world r

@@ -14,7 +14,7 @@ use Rattle.ncc_replay.specs.Line.{bookmark_words, is_bookmark_word, hex, MayPres
 use Rattle.ncc_replay.specs.declared.status.Cause.{Cause}
 use Rattle.ncc_replay.specs.declared.status.Cause.TheVariants.{BadLine, BadBookmark}
 use Rattle.ncc_replay.specs.declared.line.Verb.{Verb}
-use Rattle.ncc_replay.specs.declared.line.Verb.TheVariants.{Cluster, Time, Put, Get, Apply, Open, Bytes, Close}
+use Rattle.ncc_replay.specs.declared.line.Verb.TheVariants.{Cluster, Time, Put, Get, Apply, Timeout, Beat, Deliver, Pull, Crash, Open, Bytes, Close}
 use Rattle.ncc_replay.specs.declared.line.Verb.TheVariants.{Session, Work, Up, Down, Pump, Cut}
 
 -- what stands between the spaces of a text, of which there is always some
@@ -33,6 +33,11 @@ verb_word Time = codes "time"
 verb_word Put = codes "put"
 verb_word Get = codes "get"
 verb_word Apply = codes "apply"
+verb_word Timeout = codes "timeout"
+verb_word Beat = codes "beat"
+verb_word Deliver = codes "deliver"
+verb_word Pull = codes "pull"
+verb_word Crash = codes "crash"
 verb_word Open = codes "open"
 verb_word Bytes = codes "bytes"
 verb_word Close = codes "close"

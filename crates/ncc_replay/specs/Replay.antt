@@ -5,7 +5,7 @@ use Rattle.ncc_world.specs.declared.setup.Setup.{Setup}
 use Rattle.ncc_world.specs.declared.event.Event.{Event}
 use Rattle.ncc_world.specs.declared.error.Which.{Which}
 use Rattle.ncc_world.specs.declared.error.Which.TheVariants.{Script as ScriptLimit}
-use Rattle.ncc_world.specs.Happening.{ListRun}
+use Rattle.ncc_world.specs.Happening.{WorldRun}
 use Rattle.ncc_replay.specs.Script.{Script, End, whole, refused, limited, IsText}
 use Rattle.ncc_replay.specs.declared.status.Status.{Status}
 use Rattle.ncc_replay.specs.declared.status.Status.TheVariants.{Done, ReadFault, WriteFault, BadScript, Limit, Memory}
@@ -31,18 +31,18 @@ pub record ReadsAll (old new : Option (List ℕ)) (text : List ℕ) : Type 0 whe
   pub within : length text ≤ most_bytes
 
 -- the whole input was a text that says this script, whose run stands so at its end, and ends so
-pub record ReadsTo (old new : Option (List ℕ)) (s : Script) (t : Option ListRun) (end : End) : Type 0 where
+pub record ReadsTo (old new : Option (List ℕ)) (s : Script) (t : Option WorldRun) (end : End) : Type 0 where
   pub text : List ℕ
   pub reads : ReadsAll old new text
   pub is_text : IsText text s t end
 
 -- it was a script as a whole
-abbrev pub Reads : Option (List ℕ) → Option (List ℕ) → Script → Option ListRun → Type 0
+abbrev pub Reads : Option (List ℕ) → Option (List ℕ) → Script → Option WorldRun → Type 0
 Reads old new s t = ReadsTo old new s t whole
 
 -- it ends so
 abbrev pub ReadsUpTo : Option (List ℕ) → Option (List ℕ) → End → Type 0
-ReadsUpTo old new end = (s : Script) × (t : Option ListRun) × ReadsTo old new s t end
+ReadsUpTo old new end = (s : Script) × (t : Option WorldRun) × ReadsTo old new s t end
 
 -- the source had more bytes left than a script may have, where it tells them
 abbrev pub IsTooLong : Option (List ℕ) → Type 0
@@ -55,8 +55,8 @@ Passes old new ScriptLimit = IsTooLong old
 Passes old new which = ReadsUpTo old new (limited which)
 
 -- it holds of the script's cluster, its events and their run, where the script has a cluster
-abbrev pub OfRun : (Setup → List (ℕ × Event) → ListRun → Type 0) → Script → Option ListRun → Type 0
-OfRun P s t = (setup : Setup) (r : ListRun) → s.setup ≡ Some setup → t ≡ Some r → P setup s.events r
+abbrev pub OfRun : (Setup → List (ℕ × Event) → WorldRun → Type 0) → Script → Option WorldRun → Type 0
+OfRun P s t = (setup : Setup) (r : WorldRun) → s.setup ≡ Some setup → t ≡ Some r → P setup s.events r
 
 -- the words are right, and the source has exactly these bytes left
 pub record IsGiven (words : List (List ℕ)) (left : Option (List ℕ)) (text : List ℕ) : Type 0 where

@@ -35,7 +35,7 @@ use Rattle.ncc_world.specs.declared.seen.ConnSeen.{ConnSeen}
 use Rattle.ncc_world.specs.declared.seen.WorkSeen.{WorkSeen}
 use Rattle.ncc_world.specs.Events.{is_word}
 use Rattle.ncc_world.specs.Requests.{put_source}
-use Rattle.ncc_world.specs.Happening.{ListRun}
+use Rattle.ncc_world.specs.Happening.{WorldRun}
 use Rattle.ncc_world.specs.Showing.{members_of, conns_of, works_of}
 use Rattle.ncc_replay.specs.Line.{hex}
 use Rattle.ncc_replay.specs.Script.{Script}
@@ -199,7 +199,7 @@ history_text history = codes "history" ++ (spaced (length history) ++ (codes "\n
 
 -- ---- the whole report
 
-unfoldable pub report_of : Setup → ListRun → List ℕ
+unfoldable pub report_of : Setup → WorldRun → List ℕ
 report_of s r =
     codes "ncc-report 1\n" ++ (flat_map fact_line r.told ++ (flat_map work_line (works_of r) ++ (flat_map conn_line (conns_of s r)
     ++ (flat_map out_line (conns_of s r) ++ (flat_map member_line (members_of s r) ++ (history_text r.history ++ codes "end\n"))))))
@@ -209,10 +209,10 @@ abbrev pub no_report : List ℕ
 no_report = codes "ncc-report 1\nhistory 0\nend\n"
 
 -- of a script, where it has a cluster of its run
-abbrev pub report_by : Option Setup → Option ListRun → List ℕ
+abbrev pub report_by : Option Setup → Option WorldRun → List ℕ
 report_by None t = no_report
 report_by (Some s) None = no_report
 report_by (Some s) (Some r) = report_of s r
 
-abbrev pub report_text : Script → Option ListRun → List ℕ
+abbrev pub report_text : Script → Option WorldRun → List ℕ
 report_text s t = report_by s.setup t

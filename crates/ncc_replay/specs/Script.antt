@@ -9,7 +9,7 @@ use Rattle.ncc_world.specs.declared.error.Which.{Which}
 use Rattle.ncc_world.specs.declared.error.Which.TheVariants.{Line as LineLimit, Events as EventsLimit}
 use Rattle.ncc_world.specs.declared.error.WorldError.{WorldError}
 use Rattle.ncc_world.specs.declared.error.WorldError.TheVariants as w
-use Rattle.ncc_world.specs.Happening.{ListRun, start_of, refusal, Happens}
+use Rattle.ncc_world.specs.Happening.{WorldRun, start_of, refusal, Happens}
 use Rattle.ncc_replay.specs.Line.{Says, SaysNone, SaysCluster, header, is_skipped, first_word}
 use Rattle.ncc_replay.specs.declared.status.Cause.{Cause}
 use Rattle.ncc_replay.specs.declared.status.Cause.TheVariants.{NoHeader, NoCluster, BadLine, WrongWorld, NoMember, NoConn, NoMessage}
@@ -73,32 +73,32 @@ cause_of (w.Limit which) = None
 cause_of w.Memory = None
 
 -- the world refuses the event for this cause
-pub record IsRefusedFor (r : ListRun) (event : Event) (cause : Cause) : Type 0 where
+pub record IsRefusedFor (s : Setup) (r : WorldRun) (event : Event) (cause : Cause) : Type 0 where
   pub error : WorldError
-  pub refuses : refusal r event ≡ Some error
+  pub refuses : refusal s r event ≡ Some error
   pub cause_is : cause_of error ≡ Some cause
 
 -- the line says this event, and the run so far allows it
-pub record Accepted (s : Setup) (r : ListRun) (line : List ℕ) (event : Event) : Type 0 where
+pub record Accepted (s : Setup) (r : WorldRun) (line : List ℕ) (event : Event) : Type 0 where
   pub counts : Counts line
   pub says : Says s.cluster line event
-  pub allowed : refusal r event ≡ None
+  pub allowed : refusal s r event ≡ None
 
 -- ---- the lines behind the `cluster` line, where so many were events and the run stands so: the events that they say, and how the run
 -- stands where they end
-pub data EventLines (s : Setup) : ℕ → ListRun → Lines → List (ℕ × Event) → ListRun → End → Type 0 where
-  none_left : (n : ℕ) (r : ListRun) → EventLines s n r [] [] r whole
-  long : (n : ℕ) (r : ListRun) (number : ℕ) (line : List ℕ) (ls : Lines) → is_long line ≡ true
+pub data EventLines (s : Setup) : ℕ → WorldRun → Lines → List (ℕ × Event) → WorldRun → End → Type 0 where
+  none_left : (n : ℕ) (r : WorldRun) → EventLines s n r [] [] r whole
+  long : (n : ℕ) (r : WorldRun) (number : ℕ) (line : List ℕ) (ls : Lines) → is_long line ≡ true
       → EventLines s n r ((number, line) ∷ ls) [] r (limited LineLimit)
-  skipped : (n : ℕ) (r : ListRun) (number : ℕ) (line : List ℕ) (ls : Lines) (es : List (ℕ × Event)) (t : ListRun) (end : End)
+  skipped : (n : ℕ) (r : WorldRun) (number : ℕ) (line : List ℕ) (ls : Lines) (es : List (ℕ × Event)) (t : WorldRun) (end : End)
       → is_long line ≡ false → is_skipped line ≡ true → EventLines s n r ls es t end → EventLines s n r ((number, line) ∷ ls) es t end
-  says_none : (n : ℕ) (r : ListRun) (number : ℕ) (line : List ℕ) (ls : Lines) (cause : Cause) → Counts line → SaysNone s.cluster line cause
+  says_none : (n : ℕ) (r : WorldRun) (number : ℕ) (line : List ℕ) (ls : Lines) (cause : Cause) → Counts line → SaysNone s.cluster line cause
       → EventLines s n r ((number, line) ∷ ls) [] r (refused number cause)
-  not_allowed : (n : ℕ) (r : ListRun) (number : ℕ) (line : List ℕ) (ls : Lines) (event : Event) (cause : Cause) → Counts line
-      → Says s.cluster line event → IsRefusedFor r event cause → EventLines s n r ((number, line) ∷ ls) [] r (refused number cause)
-  many : (n : ℕ) (r : ListRun) (number : ℕ) (line : List ℕ) (ls : Lines) (event : Event) → Accepted s r line event → max_events ≤ n
+  not_allowed : (n : ℕ) (r : WorldRun) (number : ℕ) (line : List ℕ) (ls : Lines) (event : Event) (cause : Cause) → Counts line
+      → Says s.cluster line event → IsRefusedFor s r event cause → EventLines s n r ((number, line) ∷ ls) [] r (refused number cause)
+  many : (n : ℕ) (r : WorldRun) (number : ℕ) (line : List ℕ) (ls : Lines) (event : Event) → Accepted s r line event → max_events ≤ n
       → EventLines s n r ((number, line) ∷ ls) [] r (limited EventsLimit)
-  happens : (n : ℕ) (r m : ListRun) (number : ℕ) (line : List ℕ) (ls : Lines) (event : Event) (es : List (ℕ × Event)) (t : ListRun)
+  happens : (n : ℕ) (r m : WorldRun) (number : ℕ) (line : List ℕ) (ls : Lines) (event : Event) (es : List (ℕ × Event)) (t : WorldRun)
       (end : End)
       → Accepted s r line event → n < max_events → Happens s number event r m → EventLines s (n + 1) m ls es t end
       → EventLines s n r ((number, line) ∷ ls) ((number, event) ∷ es) t end
@@ -110,35 +110,35 @@ IsNoCluster line BadLine = (first_word line ≡ codes "cluster") × ((s : Setup)
 IsNoCluster line _ = ⊥
 
 -- the lines behind the header
-pub data ClusterLines : Lines → Script → Option ListRun → End → Type 0 where
+pub data ClusterLines : Lines → Script → Option WorldRun → End → Type 0 where
   none_left : ClusterLines [] (record { setup = None; events = [] }) None whole
   long : (number : ℕ) (line : List ℕ) (ls : Lines) → is_long line ≡ true
       → ClusterLines ((number, line) ∷ ls) (record { setup = None; events = [] }) None (limited LineLimit)
-  skipped : (number : ℕ) (line : List ℕ) (ls : Lines) (s : Script) (t : Option ListRun) (end : End)
+  skipped : (number : ℕ) (line : List ℕ) (ls : Lines) (s : Script) (t : Option WorldRun) (end : End)
       → is_long line ≡ false → is_skipped line ≡ true → ClusterLines ls s t end → ClusterLines ((number, line) ∷ ls) s t end
   says_none : (number : ℕ) (line : List ℕ) (ls : Lines) (cause : Cause) → Counts line → IsNoCluster line cause
       → ClusterLines ((number, line) ∷ ls) (record { setup = None; events = [] }) None (refused number cause)
-  says : (number : ℕ) (line : List ℕ) (ls : Lines) (setup : Setup) (es : List (ℕ × Event)) (t : ListRun) (end : End) → Counts line
+  says : (number : ℕ) (line : List ℕ) (ls : Lines) (setup : Setup) (es : List (ℕ × Event)) (t : WorldRun) (end : End) → Counts line
       → SaysCluster line setup → EventLines setup 0 (start_of setup) ls es t end
       → ClusterLines ((number, line) ∷ ls) (record { setup = Some setup; events = es }) (Some t) end
 
 -- all lines
-pub data ScriptLines : Lines → Script → Option ListRun → End → Type 0 where
+pub data ScriptLines : Lines → Script → Option WorldRun → End → Type 0 where
   none_left : ScriptLines [] (record { setup = None; events = [] }) None whole
   long : (number : ℕ) (line : List ℕ) (ls : Lines) → is_long line ≡ true
       → ScriptLines ((number, line) ∷ ls) (record { setup = None; events = [] }) None (limited LineLimit)
-  skipped : (number : ℕ) (line : List ℕ) (ls : Lines) (s : Script) (t : Option ListRun) (end : End)
+  skipped : (number : ℕ) (line : List ℕ) (ls : Lines) (s : Script) (t : Option WorldRun) (end : End)
       → is_long line ≡ false → is_skipped line ≡ true → ScriptLines ls s t end → ScriptLines ((number, line) ∷ ls) s t end
   other : (number : ℕ) (line : List ℕ) (ls : Lines) → Counts line → line ≢ header
       → ScriptLines ((number, line) ∷ ls) (record { setup = None; events = [] }) None (refused number NoHeader)
-  is_header : (number : ℕ) (line : List ℕ) (ls : Lines) (s : Script) (t : Option ListRun) (end : End) → Counts line → line ≡ header
+  is_header : (number : ℕ) (line : List ℕ) (ls : Lines) (s : Script) (t : Option WorldRun) (end : End) → Counts line → line ≡ header
       → ClusterLines ls s t end → ScriptLines ((number, line) ∷ ls) s t end
 
 -- the text says this script, whose run stands so at its end, and ends so
-abbrev pub IsText : List ℕ → Script → Option ListRun → End → Type 0
+abbrev pub IsText : List ℕ → Script → Option WorldRun → End → Type 0
 IsText text s t end = ScriptLines (numbered text) s t end
 
 -- each text ends in one way
 abbrev pub OneEnd : Type 0
-OneEnd = (text : List ℕ) (s x : Script) (t u : Option ListRun) (end other : End) → IsText text s t end → IsText text x u other
+OneEnd = (text : List ℕ) (s x : Script) (t u : Option WorldRun) (end other : End) → IsText text s t end → IsText text x u other
     → (end ≡ other) × (s ≡ x) × (t ≡ u)

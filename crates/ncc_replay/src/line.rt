@@ -15,6 +15,7 @@ ghost use Rattle.ncc_world.specs.Events.{is_word, is_word_byte};
 ghost use Rattle.ncc_world.specs.declared.event.Event.{Event};
 ghost use Rattle.ncc_world.specs.declared.setup.Setup.{Setup};
 
+use crate::raft_line::{beat, crash, deliver, pull, timeout};
 use crate::session_line::{cut_link, down, pump, session, up, work};
 use crate::status::Cause;
 use itoa::Buffer;
@@ -61,6 +62,11 @@ enum Verb {
     Put,
     Get,
     Apply,
+    Timeout,
+    Beat,
+    Deliver,
+    Pull,
+    Crash,
     Open,
     Bytes,
     Close,
@@ -83,6 +89,11 @@ fn verb_of(word: &[u8]) -> Option<Verb>
         b"put" => Some(Verb::Put),
         b"get" => Some(Verb::Get),
         b"apply" => Some(Verb::Apply),
+        b"timeout" => Some(Verb::Timeout),
+        b"beat" => Some(Verb::Beat),
+        b"deliver" => Some(Verb::Deliver),
+        b"pull" => Some(Verb::Pull),
+        b"crash" => Some(Verb::Crash),
         b"open" => Some(Verb::Open),
         b"bytes" => Some(Verb::Bytes),
         b"close" => Some(Verb::Close),
@@ -454,6 +465,11 @@ fn event(alloc: Global, cluster: u64, verb: Verb, rest: Option<&[u8]>) -> Result
         Verb::Put => put(alloc, cluster, rest),
         Verb::Get => get(alloc, cluster, rest),
         Verb::Apply => apply(rest).ok_or(BAD_LINE),
+        Verb::Timeout => timeout(rest).ok_or(BAD_LINE),
+        Verb::Beat => beat(rest).ok_or(BAD_LINE),
+        Verb::Deliver => deliver(rest).ok_or(BAD_LINE),
+        Verb::Pull => pull(rest).ok_or(BAD_LINE),
+        Verb::Crash => crash(rest).ok_or(BAD_LINE),
         Verb::Open => open(rest).ok_or(BAD_LINE),
         Verb::Bytes => bytes(alloc, cluster, rest),
         Verb::Close => close(rest).ok_or(BAD_LINE),

@@ -10,6 +10,7 @@ mod input;
 mod laws;
 mod line;
 mod number;
+mod raft_line;
 mod replay;
 mod report;
 mod script;

@@ -7,7 +7,7 @@ ghost use Rattle.ncc_base.specs.Flushing.{IsAllFlushed};
 ghost use Rattle.ncc_clients.specs.Laws.{PlacesAreApart, AllAreServed};
 ghost use Rattle.ncc_clients.specs.Reads.{SessionsReadTheirWrites};
 ghost use Rattle.ncc_world.specs.declared.error.Which.{Which as Limits};
-ghost use Rattle.ncc_world.specs.Happening.{ListRun};
+ghost use Rattle.ncc_world.specs.Happening.{WorldRun};
 ghost use Rattle.ncc_world.specs.Headline.{MembersAgree, FactsAreLawful, AllGoOn, AfterEach};
 ghost use Rattle.ncc_world.specs.Setting.{cluster_of};
 ghost use Rattle.ncc_world.specs.Showing.{works_of};
@@ -40,7 +40,7 @@ fn are_run_words(words: &Words) -> bool
 
 // The report of a run, or of none.
 fn append_report(world: &Option<World>, into: &mut Bytes) -> Result<(), AllocError>
-    ensures { (s : Script) (t : Option ListRun) → IsRunOf world.now s t → OfRun (λ setup events run. WorksFit (works_of run)) s t →
+    ensures { (s : Script) (t : Option WorldRun) → IsRunOf world.now s t → OfRun (λ setup events run. WorksFit (works_of run)) s t →
         OnOk result (into.new ≡ into.old ++ report_text s t) }
 {
     match world {
@@ -51,11 +51,11 @@ fn append_report(world: &Option<World>, into: &mut Bytes) -> Result<(), AllocErr
 
 // The report of a script.
 fn report_script(alloc: Global, text: &[u8]) -> Result<Bytes, ScriptError>
-    ensures ok { IfOk result (λ bytes. (s : Script) × (t : Option ListRun) × IsText text.now s t whole × (bytes ≡ report_text s t)) }
+    ensures ok { IfOk result (λ bytes. (s : Script) × (t : Option WorldRun) × IsText text.now s t whole × (bytes ≡ report_text s t)) }
     ensures bad { (line : ℕ) (cause : Causes) → IsErrOf result (ScriptError.Bad line cause) →
-        (s : Script) × (t : Option ListRun) × IsText text.now s t (refused line cause) }
+        (s : Script) × (t : Option WorldRun) × IsText text.now s t (refused line cause) }
     ensures limit { (which : Limits) → IsErrOf result (ScriptError.Limit which) →
-        (s : Script) × (t : Option ListRun) × IsText text.now s t (limited which) }
+        (s : Script) × (t : Option WorldRun) × IsText text.now s t (limited which) }
 {
     let world = match run_script(alloc, text) {
         Ok(world) => world,
@@ -121,27 +121,27 @@ pub fn replay<S: Source, K: Sink>(
     output: &mut K,
 ) -> Status
     // The whole input was read, and exactly the report of the script's run was written.
-    ensures done { result ≡ Status.Done → (s : Script) × (t : Option ListRun) × Reads (S.left input.old) (S.left input.new) s t
+    ensures done { result ≡ Status.Done → (s : Script) × (t : Option WorldRun) × Reads (S.left input.old) (S.left input.new) s t
         × Appends (K.held output.old) (K.held output.new) (report_text s t) }
 
     // All that the sink holds was flushed, where it tells what was.
     ensures flushed { result ≡ Status.Done → IsAllFlushed (K.held output.new) (K.flushed output.new) }
 
     // The promise, of the script that was read and its run.
-    ensures members_agree { result ≡ Status.Done → (s : Script) (t : Option ListRun) → Reads (S.left input.old) (S.left input.new) s t →
+    ensures members_agree { result ≡ Status.Done → (s : Script) (t : Option WorldRun) → Reads (S.left input.old) (S.left input.new) s t →
         OfRun MembersAgree s t }
-    ensures facts_are_lawful { result ≡ Status.Done → (s : Script) (t : Option ListRun) → Reads (S.left input.old) (S.left input.new) s t →
+    ensures facts_are_lawful { result ≡ Status.Done → (s : Script) (t : Option WorldRun) → Reads (S.left input.old) (S.left input.new) s t →
         OfRun FactsAreLawful s t }
-    ensures places_are_apart { result ≡ Status.Done → (s : Script) (t : Option ListRun) → Reads (S.left input.old) (S.left input.new) s t →
+    ensures places_are_apart { result ≡ Status.Done → (s : Script) (t : Option WorldRun) → Reads (S.left input.old) (S.left input.new) s t →
         OfRun (λ setup events run. PlacesAreApart run) s t }
-    ensures all_are_served { result ≡ Status.Done → (s : Script) (t : Option ListRun) → Reads (S.left input.old) (S.left input.new) s t →
+    ensures all_are_served { result ≡ Status.Done → (s : Script) (t : Option WorldRun) → Reads (S.left input.old) (S.left input.new) s t →
         OfRun (λ setup events run. AllAreServed (cluster_of setup) run) s t }
-    ensures nobody_vanishes { result ≡ Status.Done → (s : Script) (t : Option ListRun) → Reads (S.left input.old) (S.left input.new) s t →
+    ensures nobody_vanishes { result ≡ Status.Done → (s : Script) (t : Option WorldRun) → Reads (S.left input.old) (S.left input.new) s t →
         OfRun AllGoOn s t }
-    ensures nobody_is_forgotten { result ≡ Status.Done → (s : Script) (t : Option ListRun) → Reads (S.left input.old)
+    ensures nobody_is_forgotten { result ≡ Status.Done → (s : Script) (t : Option WorldRun) → Reads (S.left input.old)
         (S.left input.new) s t →
         OfRun (λ setup events run. AfterEach setup events) s t }
-    ensures sessions_read_their_writes { result ≡ Status.Done → (s : Script) (t : Option ListRun) → Reads (S.left input.old)
+    ensures sessions_read_their_writes { result ≡ Status.Done → (s : Script) (t : Option WorldRun) → Reads (S.left input.old)
         (S.left input.new) s t →
         OfRun (λ setup events run. SessionsReadTheirWrites run) s t }
 
@@ -154,12 +154,12 @@ pub fn replay<S: Source, K: Sink>(
     ensures write_fault { result ≡ Status.WriteFault → Rose (K.faults output.old) (K.faults output.new) }
 
     // Where source and sink do not fail and memory does not run out, the input decides.
-    ensures completes { (text : List ℕ) (s : Script) (t : Option ListRun) → IsGiven words.now (S.left input.old) text →
+    ensures completes { (text : List ℕ) (s : Script) (t : Option WorldRun) → IsGiven words.now (S.left input.old) text →
         length text ≤ most_bytes → IsText text s t whole → MayEnd result Status.Done }
-    ensures refuses { (text : List ℕ) (s : Script) (t : Option ListRun) (line : ℕ) (cause : Causes) →
+    ensures refuses { (text : List ℕ) (s : Script) (t : Option WorldRun) (line : ℕ) (cause : Causes) →
         IsGiven words.now (S.left input.old) text → length text ≤ most_bytes → IsText text s t (refused line cause) →
         MayEnd result (Status.BadScript line cause) }
-    ensures limited { (text : List ℕ) (s : Script) (t : Option ListRun) (which : Limits) →
+    ensures limited { (text : List ℕ) (s : Script) (t : Option WorldRun) (which : Limits) →
         IsGiven words.now (S.left input.old) text → length text ≤ most_bytes → IsText text s t (limited which) →
         MayEnd result (Status.Limit which) }
     ensures too_long { (text : List ℕ) → IsGiven words.now (S.left input.old) text → most_bytes < length text →
@@ -167,7 +167,7 @@ pub fn replay<S: Source, K: Sink>(
 
     // What is written otherwise.
     ensures nothing_written { result ≢ Status.Done → result ≢ Status.WriteFault → K.held output.new ≡ K.held output.old }
-    ensures prefix { result ≡ Status.WriteFault → (s : Script) × (t : Option ListRun) × (n : ℕ)
+    ensures prefix { result ≡ Status.WriteFault → (s : Script) × (t : Option WorldRun) × (n : ℕ)
         × Reads (S.left input.old) (S.left input.new) s t × Appends (K.held output.old) (K.held output.new) (take n (report_text s t)) }
     ensures nothing_read { result ≡ Status.BadWords → S.left input.new ≡ S.left input.old }
 {

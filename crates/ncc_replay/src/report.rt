@@ -17,7 +17,7 @@ ghost use Rattle.ncc_store.specs.declared.step.Step.{Step as OneStep};
 ghost use Rattle.ncc_apply.specs.View.{stamp_of};
 ghost use Rattle.ncc_world.specs.Requests.{put_source};
 ghost use Rattle.ncc_world.specs.Events.{is_word};
-ghost use Rattle.ncc_world.specs.Happening.{ListRun};
+ghost use Rattle.ncc_world.specs.Happening.{WorldRun};
 ghost use Rattle.ncc_world.specs.Spellable.{AllAllowed, AllFit, rows_fit};
 ghost use Rattle.ncc_world.specs.Showing.{works_of};
 ghost use Rattle.ncc_world.specs.World.{Stands};
@@ -427,7 +427,7 @@ fn append_stamped(
     into: &mut Bytes,
 ) -> Result<(), AllocError>
     requires { IsTrue (entry_fits item.now.entry) }
-    ensures { (r : ListRun) (stamp : OneStamp) → Stands world.now r → stamp_of place (stamps r.history) ≡ Some stamp →
+    ensures { (r : WorldRun) (stamp : OneStamp) → Stands world.now r → stamp_of place (stamps r.history) ≡ Some stamp →
         OnOk result (into.new ≡ into.old ++ place_line place item.now stamp) }
 {
     match world.stamp(place) {
@@ -439,7 +439,7 @@ fn append_stamped(
 // The lines of the places of the history.
 fn append_places(world: &World, history: &[Item], into: &mut Bytes) -> Result<(), AllocError>
     requires { AllAllowed history.now }
-    ensures { (r : ListRun) → Stands world.now r → history.now ≡ r.history →
+    ensures { (r : WorldRun) → Stands world.now r → history.now ≡ r.history →
         OnOk result (into.new ≡ into.old ++ place_lines 1 history.now (stamps history.now)) }
 {
     for (index, item) in history.iter().enumerate() {
@@ -450,7 +450,7 @@ fn append_places(world: &World, history: &[Item], into: &mut Bytes) -> Result<()
 
 // The lines of the history.
 fn append_history(world: &World, into: &mut Bytes) -> Result<(), AllocError>
-    ensures { (r : ListRun) → Stands world.now r → OnOk result (into.new ≡ into.old ++ history_text r.history) }
+    ensures { (r : WorldRun) → Stands world.now r → OnOk result (into.new ≡ into.old ++ history_text r.history) }
 {
     append_counted(b"history", world.history().len() as u64, into)?;
     into.extend(b"\n")?;
@@ -460,7 +460,7 @@ fn append_history(world: &World, into: &mut Bytes) -> Result<(), AllocError>
 /// Appends the report of the run that the world stands for, in which the rows of each work fit, as in every run from its beginning they do.
 /// An `Err` leaves a front of it.
 pub fn report(world: &World, into: &mut Bytes) -> Result<(), AllocError>
-    ensures appended { (r : ListRun) → Stands world.now r → WorksFit (works_of r) →
+    ensures appended { (r : WorldRun) → Stands world.now r → WorksFit (works_of r) →
         OnOk result (into.new ≡ into.old ++ report_of world.now.setup r) }
 {
     into.extend(b"ncc-report 1\n")?;

@@ -8,7 +8,7 @@ ghost use Rattle.ncc_replay.specs.Progress.{GoesOn, EndsSo, IsRunOf};
 ghost use Rattle.ncc_replay.specs.declared.status.Cause.{Cause as Causes};
 ghost use Rattle.ncc_replay.specs.declared.script.ScriptError.{ScriptError as Errors};
 ghost use Rattle.ncc_world.specs.declared.error.Which.{Which as Limits};
-ghost use Rattle.ncc_world.specs.Happening.{ListRun};
+ghost use Rattle.ncc_world.specs.Happening.{WorldRun};
 
 use crate::line::{LineError, parse_cluster, parse_line, skips};
 use crate::status::Cause;
@@ -235,11 +235,11 @@ fn take_line(
 
 /// Reads a whole script and runs it. The answer is none where the script ends before its `cluster` line.
 pub fn run_script(alloc: Global, text: &[u8]) -> Result<Option<World>, ScriptError>
-    ensures ok { IfOk result (λ world. (s : Script) × (t : Option ListRun) × IsText text.now s t whole × IsRunOf world s t) }
+    ensures ok { IfOk result (λ world. (s : Script) × (t : Option WorldRun) × IsText text.now s t whole × IsRunOf world s t) }
     ensures bad { (line : ℕ) (cause : Causes) → IsErrOf result (ScriptError.Bad line cause) →
-        (s : Script) × (t : Option ListRun) × IsText text.now s t (refused line cause) }
+        (s : Script) × (t : Option WorldRun) × IsText text.now s t (refused line cause) }
     ensures limit { (which : Limits) → IsErrOf result (ScriptError.Limit which) →
-        (s : Script) × (t : Option ListRun) × IsText text.now s t (limited which) }
+        (s : Script) × (t : Option WorldRun) × IsText text.now s t (limited which) }
 {
     let mut progress = Progress::Header;
     let mut rest = text;

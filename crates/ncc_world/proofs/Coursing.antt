@@ -38,18 +38,23 @@ use Rattle.ncc_clients.proofs.Smalls.{small_kept}
 use Rattle.ncc_clients.proofs.Courses.{deed_path}
 use Rattle.ncc_clients.proofs.Splitting.{lifts_split, fronts_are_taken}
 use Rattle.ncc_clients.proofs.Waking.{turns_are_courses, wakes_are_courses}
+use Rattle.ncc_clients.proofs.Ending.{ends_are_courses}
 use Rattle.ncc_clients.proofs.Reading.{sessions_read}
 use Rattle.ncc_world.specs.declared.setup.Setup.{Setup}
 use Rattle.ncc_world.specs.declared.event.Event.{Event}
-use Rattle.ncc_world.specs.declared.event.Event.TheVariants.{Time, Put, Get, Apply, Open, Bytes, Close, Session, Work, Up, Down, Pump, Cut}
+use Rattle.ncc_world.specs.declared.event.Event.TheVariants.{Time, Put, Get, Apply, Timeout, Beat, Deliver, Pull, Crash, Open, Bytes, Close}
+use Rattle.ncc_world.specs.declared.event.Event.TheVariants.{Session, Work, Up, Down, Pump, Cut}
 use Rattle.ncc_world.specs.declared.event.Job.{Job}
 use Rattle.ncc_world.specs.declared.event.Job.TheVariants.{Add}
 use Rattle.ncc_world.specs.declared.event.Job.TheVariants as job
-use Rattle.ncc_world.specs.declared.error.WorldError.TheVariants.{NoConn, NoSession, Busy}
-use Rattle.ncc_world.specs.Setting.{IsSetup, Lists, Applies, cluster_of, nobody, lagging}
+use Rattle.ncc_world.specs.declared.error.WorldError.TheVariants.{NoMember, NoConn, NoSession, Busy}
+use Rattle.ncc_world.specs.Setting.{IsSetup, cluster_of, MovesTo, Seats, seats_of}
 use Rattle.ncc_world.specs.Events.{MayHappen, MayBegin}
 use Rattle.ncc_world.specs.Requests.{client_bytes, put_request, get_request}
-use Rattle.ncc_world.specs.Happening.{ListRun, start_of, unless, refusal, is_printed, is_linked, is_session, is_busy_at, config_of, meant, asks, own}
+use Rattle.ncc_world.specs.Happening.{WorldRun, start_of, refusal, lagged, is_printed, is_linked, is_session, is_busy_at, config_of, meant, asks, own}
+use Rattle.ncc_raft.specs.Member as raft
+use Rattle.ncc_world.specs.Rafts.{unless, stepping, delivered, pulled, restarted}
+use Rattle.ncc_world.proofs.Rafting.{not_refused, times_out, beats, delivers, pulls, restarts}
 use Rattle.ncc_world.specs.Happening.{ComesAsBytes, Steps, Happens, RunsOn}
 use Rattle.ncc_world.specs.Headline.{AllMayHappen}
 use Rattle.ncc_world.proofs.Settling.{path_through}
@@ -57,7 +62,7 @@ use Rattle.ncc_world.proofs.Sending.{word_fits}
 use Rattle.ncc_world.proofs.Keeping.{get_there}
 use Rattle.ncc_world.proofs.Listed.{list_keeps_four}
 use Rattle.ncc_world.proofs.Bounding.{has_numbers}
-use Rattle.ncc_world.proofs.Moments.{lags_at, not_refused}
+use Rattle.ncc_world.proofs.Moments.{lags_at, member_some}
 
 -- ---- what sessions and works are made of has a spelling
 
@@ -138,8 +143,8 @@ all_three true true false e = (refl, refl)
 all_three true false c e = absurd (cc)
 all_three false b c e = absurd (cc)
 
-open_made : (r : ListRun) (conn : ℕ) (bytes : List ℕ) → refusal r (Bytes conn bytes) ≡ None → IsNoLink r (conn - 1 + 1)
-open_made r conn bytes e =
+open_made : (s : Setup) (r : WorldRun) (conn : ℕ) (bytes : List ℕ) → refusal s r (Bytes conn bytes) ≡ None → IsNoLink r (conn - 1 + 1)
+open_made s r conn bytes e =
     let h = all_three (nat_le 1 conn) (is_printed (slice_get r.clients (conn - 1))) (is_linked r conn) (not_refused _ NoConn e) in
     let low : 1 ≤ conn = leb-true 1 conn h.0 in
     let back : conn ≡ conn - 1 + 1 = omega (arith, low) in
@@ -147,7 +152,7 @@ open_made r conn bytes e =
 
 -- ---- who begins a work
 
-record Free (r : ListRun) (k : ℕ) : Type 0 where
+record Free (r : WorldRun) (k : ℕ) : Type 0 where
   driver : Driver
   there : driver_at r k ≡ Some driver
   free : is_busy driver ≡ false
@@ -156,7 +161,7 @@ negated : (b : Bool) → not b ≡ true → b ≡ false
 negated true e = absurd (cc)
 negated false e = refl
 
-free_by : (r : ListRun) (session : ℕ) (b : Bool) → is_session r session ≡ b
+free_by : (r : WorldRun) (session : ℕ) (b : Bool) → is_session r session ≡ b
     → (if b then unless (not (is_busy_at r session)) Busy else Some NoSession) ≡ None → Free r (session - 1)
 free_by r session false f e = absurd (cc)
 free_by r session true f e =
@@ -184,20 +189,20 @@ none_some : {A : Type 0} (x : A) → None ≡ Some x → ⊥
 none_some x e = cc
 
 module _ (known : Known) (says : DriverSays) (s : Setup) (setup : IsSetup s) where
-  abbrev C : Cluster Lists
+  abbrev C : Cluster Seats
   C = cluster_of s
 
-  four : Four C (nobody s)
+  four : Four C (seats_of s)
   four = list_keeps_four s setup
 
-  numbers : HasNumbers C (nobody s)
+  numbers : HasNumbers C (seats_of s)
   numbers = has_numbers s setup
 
-  join : (r t u : ListRun) → Course C r t → Course C t u → Course C r u
+  join : (r t u : WorldRun) → Course C r t → Course C t u → Course C r u
   join r _ u (Nothing _) q = q
   join r t u (And _ m _ h p) q = And r m u h (join m t u p q)
 
-  one : (r t : ListRun) → Deed C r t → Course C r t
+  one : (r t : WorldRun) → Deed C r t → Course C r t
   one r t h = And r t t h (Nothing t)
 
   -- what each moment keeps of sessions
@@ -212,26 +217,26 @@ module _ (known : Known) (says : DriverSays) (s : Setup) (setup : IsSetup s) whe
     };
   }
 
-  deed_kept : (r t : ListRun) → Deed C r t → Path C (start_of s) r → Kept C r → Kept C t
-  deed_kept r t (Plain _ _ h leaves) from k = small_kept C (nobody s) known four numbers r t h leaves from k
+  deed_kept : (r t : WorldRun) → Deed C r t → Path C (start_of s) r → Kept C r → Kept C t
+  deed_kept r t (Plain _ _ h leaves) from k = small_kept C (seats_of s) known four numbers r t h leaves from k
   deed_kept r _ (Makes _ config fit) from k = makes_kept C says r config fit k
   deed_kept r _ (Begins line _ n d job here free fit) from k = begins_kept C says line n r d job k here free fit
-  deed_kept r _ (Lifts _ n lift splits) from k = lifts_kept C (nobody s) known four says n r lift from k splits
+  deed_kept r _ (Lifts _ n lift splits) from k = lifts_kept C (seats_of s) known four says n r lift from k splits
   deed_kept r _ (Falls line _ n front takes bytes) from k = falls_kept C says setup.id line n r front k takes bytes
   deed_kept r _ (Cuts line _ n) from k = cuts_kept C says line n r k
   deed_kept r _ (Wakes line _ n d here) from k = woken_kept C says line n r d k here
 
-  course_kept : (r t : ListRun) → Course C r t → Path C (start_of s) r → Kept C r → Kept C t
+  course_kept : (r t : WorldRun) → Course C r t → Path C (start_of s) r → Kept C r → Kept C t
   course_kept r _ (Nothing _) from k = k
   course_kept r t (And _ m _ h p) from k =
       course_kept m t p (path_through C (start_of s) r m from (deed_path C r m h)) (deed_kept r m h from k)
 
-  kept_at : (r : ListRun) → Course C (start_of s) r → Kept C r
+  kept_at : (r : WorldRun) → Course C (start_of s) r → Kept C r
   kept_at r p = course_kept (start_of s) r p (Here (start_of s)) begun_kept
 
   -- ---- the own steps
 
-  feeds_course : (r : ListRun) (i : ℕ) (piece : List ℕ) → IsNoLink r (i + 1) → Course C r (feeds C r i piece)
+  feeds_course : (r : WorldRun) (i : ℕ) (piece : List ℕ) → IsNoLink r (i + 1) → Course C r (feeds C r i piece)
   feeds_course r i piece free = go (slice_get r.clients i) refl where
     by : (c : Client) → slice_get r.clients i ≡ Some c → (b : Bool) → c.closed ≡ b → Course C r (if b then r else fed C r i c piece)
     by c e true f = Nothing r
@@ -241,7 +246,7 @@ module _ (known : Known) (says : DriverSays) (s : Setup) (setup : IsSetup s) whe
     go None e = Nothing r
     go (Some c) e = by c e c.closed refl
 
-  closes_course : (r : ListRun) (i : ℕ) → Course C r (closes r i)
+  closes_course : (r : WorldRun) (i : ℕ) → Course C r (closes r i)
   closes_course r i = go (slice_get r.clients i) refl where
     by : (c : Client) → slice_get r.clients i ≡ Some c → (b : Bool) → c.closed ≡ b → Course C r (if b then r else closed_at r i c)
     by c e true f = Nothing r
@@ -252,28 +257,28 @@ module _ (known : Known) (says : DriverSays) (s : Setup) (setup : IsSetup s) whe
     go (Some c) e = by c e c.closed refl
 
   -- a connection that was just made is no session's
-  new_is_free : (r : ListRun) (member : ℕ) → Kept C r → IsNoLink (opened r member false) (length r.clients + 1)
+  new_is_free : (r : WorldRun) (member : ℕ) → Kept C r → IsNoLink (opened r member false) (length r.clients + 1)
   new_is_free r member k l has same =
       let h = k.around.held l has in
       omega (arith, same, h.some, below r.clients (l.conn - 1) h.c h.there)
 
-  asks_course : (r : ListRun) (member : ℕ) (request : Request) → Kept C r → Course C r (asks s r member request)
-  asks_course r member request k =
-      let t : ListRun = opened r member false in
-      join r t (asks s r member request) (one r t (Plain r t (Opens r member false) tt))
+  asks_course : (r : WorldRun) (member : ℕ) (request : Request) → 1 ≤ member → Kept C r → Course C r (asks s r member request)
+  asks_course r member request some k =
+      let t : WorldRun = opened r member false in
+      join r t (asks s r member request) (one r t (Plain r t (Opens r member false some) tt))
       (feeds_course t (length r.clients) (client_bytes request) (new_is_free r member k))
 
-  come : (r : ListRun) (o : Option Driver) → AreBytes (down_at C r o) → ComeAsBytes C r o all_bytes
+  come : (r : WorldRun) (o : Option Driver) → AreBytes (down_at C r o) → ComeAsBytes C r o all_bytes
   come r None h = tt
   come r (Some d) h = λ link e. subst (λ (o : Option Link). AreBytes (elim o [ Some l ↦ waits_above C r l | None ↦ [] ])) e h
 
   module _ (line k : ℕ) where
-    risen : (limit : Option ℕ) (r t : ListRun) → Settles C line (rises C k limit r) t → Course C r t
+    risen : (limit : Option ℕ) (r t : WorldRun) → Settles C line (rises C k limit r) t → Course C r t
     risen limit r t h =
         And r (rises C k limit r) t (Lifts r k (lift_to limit) (lifts_split.3 limit))
         (turns_are_courses C line (rises C k limit r) t h.turns)
 
-    pumps_course : (limit : Option ℕ) (r t : ListRun) (p : Pumps C line k limit r t) → ComesAsBytes s line k limit r t p → Course C r t
+    pumps_course : (limit : Option ℕ) (r t : WorldRun) (p : Pumps C line k limit r t) → ComesAsBytes s line k limit r t p → Course C r t
     pumps_course limit r _ (Rests _ _ up down) b = Nothing r
     pumps_course limit r t (Stops _ _ _ reached h) b = risen limit r t h
     pumps_course limit r t (Rises _ _ m _ some more h p) b =
@@ -282,26 +287,41 @@ module _ (known : Known) (says : DriverSays) (s : Setup) (setup : IsSetup s) whe
         And r (descends C line k r) t (Falls line r k all_bytes fronts_are_taken.1 (come r (driver_at r k) b.0))
         (pumps_course limit (descends C line k r) t p b.1)
 
-  own_course : (line : ℕ) (event : Event) (r t : ListRun) → Kept C r → refusal r event ≡ None → MayHappen s.cluster event
+  moves_course : (r t : WorldRun) (members : Seats) → MovesTo s r.members members → t ≡ moved C r members → Course C r t
+  moves_course r t members m h =
+      subst (λ x. Course C r x) (sym h) (one r (moved C r members) (Plain r (moved C r members) (Moves r members m) tt))
+
+  own_course : (line : ℕ) (event : Event) (r t : WorldRun) → Kept C r → refusal s r event ≡ None → MayHappen s.cluster event
       → Steps s line event r t → Course C r t
   unfolding own
   own_course line (Time to) r t k e may h =
-      let u : ListRun = ticked r to in
+      let u : WorldRun = ticked r to in
       let le : r.now ≤ to = leb-true r.now to (not_refused (nat_le r.now to) _ e) in
       subst (λ x. Course C r x) (sym h) (And r u (wakes_all C line u) (Plain r u (Ticks r to le) tt) (wakes_are_courses C line u))
   own_course line (Put member key value bookmarks) r t k e may h =
-      subst (λ x. Course C r x) (sym h) (asks_course r member (put_request key value bookmarks) k)
+      subst (λ x. Course C r x) (sym h) (asks_course r member (put_request key value bookmarks) (member_some r member NoMember e) k)
   own_course line (Get member key bookmarks) r t k e may h =
-      subst (λ x. Course C r x) (sym h) (asks_course r member (get_request key bookmarks) k)
+      subst (λ x. Course C r x) (sym h) (asks_course r member (get_request key bookmarks) (member_some r member NoMember e) k)
   own_course line (Apply member count) r t k e may h =
-      let u : Lists = lagging r.members member count in
-      let a : Applies r.members u = lags_at r member count e in
+      let u : Seats = lagged r.members member count in
+      let a : MovesTo s r.members u = lags_at s r member count e in
       subst (λ x. Course C r x) (sym h) (one r (moved C r u) (Plain r (moved C r u) (Moves r u a) tt))
+  own_course line (Timeout member) r t k e may h =
+      moves_course r t (stepping s r.members member raft.Timeout) (times_out s r.members member e) h
+  own_course line (Beat member) r t k e may h =
+      moves_course r t (stepping s r.members member raft.Beat) (beats s r.members member e) h
+  own_course line (Deliver message) r t k e may h =
+      moves_course r t (delivered s r.members message) (delivers s r.members message e) h
+  own_course line (Pull replica core) r t k e may h =
+      moves_course r t (pulled s r.members replica core) (pulls s r.members replica core e) h
+  own_course line (Crash member) r t k e may h =
+      subst (λ x. Course C r x) (sym h)
+      (ends_are_courses C line member (restarted s r.members member) r (restarts s r.members member e))
   own_course line (Open member) r t k e may h =
-      let u : ListRun = opened r member true in
-      subst (λ x. Course C r x) (sym h) (one r u (Plain r u (Opens r member true) tt))
+      let u : WorldRun = opened r member true in
+      subst (λ x. Course C r x) (sym h) (one r u (Plain r u (Opens r member true (member_some r member NoMember e)) tt))
   own_course line (Bytes conn bytes) r t k e may h =
-      subst (λ x. Course C r x) (sym h) (feeds_course r (conn - 1) bytes (open_made r conn bytes e))
+      subst (λ x. Course C r x) (sym h) (feeds_course r (conn - 1) bytes (open_made s r conn bytes e))
   own_course line (Close conn) r t k e may h = subst (λ x. Course C r x) (sym h) (closes_course r (conn - 1))
   own_course line (Session seed) r t k e may h =
       let config = config_of s seed in
@@ -324,7 +344,7 @@ module _ (known : Known) (says : DriverSays) (s : Setup) (setup : IsSetup s) whe
       let n : ℕ = session - 1 in
       subst (λ x. Course C r x) (sym h) (one r (cuts C line n r (driver_at r n)) (Cuts line r n))
 
-  runs_course : (es : List (ℕ × Event)) (r t : ListRun) → AllMayHappen s es → Course C (start_of s) r → RunsOn s es r t → Course C r t
+  runs_course : (es : List (ℕ × Event)) (r t : WorldRun) → AllMayHappen s es → Course C (start_of s) r → RunsOn s es r t → Course C r t
   runs_course [] r t may from h = subst (λ x. Course C r x) h (Nothing r)
   runs_course (e ∷ es) r t may from h =
       let g : Happens s e.0 e.1 r h.0 = h.1 in
@@ -334,7 +354,7 @@ module _ (known : Known) (says : DriverSays) (s : Setup) (setup : IsSetup s) whe
       join r h.0 t first (runs_course es h.0 t may.1 (join (start_of s) r h.0 from first) h.2)
 
   -- in every run of events a world takes
-  pub sessions_read_their_writes : (es : List (ℕ × Event)) (end : ListRun) → AllMayHappen s es → RunsOn s es (start_of s) end
+  pub sessions_read_their_writes : (es : List (ℕ × Event)) (end : WorldRun) → AllMayHappen s es → RunsOn s es (start_of s) end
       → SessionsReadTheirWrites end
   sessions_read_their_writes es end may ran =
-      sessions_read C known says (nobody s) end four numbers (runs_course es (start_of s) end may (Nothing (start_of s)) ran)
+      sessions_read C known says (seats_of s) end four numbers (runs_course es (start_of s) end may (Nothing (start_of s)) ran)

@@ -22,7 +22,7 @@ use Rattle.ncc_world.specs.declared.setup.Setup.{Setup}
 use Rattle.ncc_world.specs.declared.running.Running.{Running}
 use Rattle.ncc_world.specs.declared.drivers.Drivers.{Drivers}
 use Rattle.ncc_world.specs.Setting.{cluster_of}
-use Rattle.ncc_world.specs.Happening.{ListRun}
+use Rattle.ncc_world.specs.Happening.{WorldRun}
 use Rattle.ncc_world.specs.World.{KeptRun, RunsAs}
 use Rattle.ncc_world.specs.Drivers.{AreAtWork, IsOne, KeptDrivers, left_of}
 use Rattle.ncc_world.specs.Parts.{RunsAll, RunsMid, drivers_in, run_in, with_own}
@@ -30,10 +30,9 @@ use Rattle.ncc_world.specs.Parts.{RunsAll, RunsMid, drivers_in, run_in, with_own
 -- ---- runs in the middle of what a session does
 
 -- What the sessions do is no part of what is kept of members and connections.
-pub driven : (s : Setup) (k : KeptRun) (r : ListRun) (driving : Driving) → RunsAs s k r → RunsAs s k (record r { driving = driving })
+pub driven : (s : Setup) (k : KeptRun) (r : WorldRun) (driving : Driving) → RunsAs s k r → RunsAs s k (record r { driving = driving })
 driven s k r driving h = record {
   now = h.now;
-  history = h.history;
   members = h.members;
   clients = h.clients;
   told = h.told;
@@ -41,7 +40,7 @@ driven s k r driving h = record {
 }
 
 -- The sessions have changed, and nothing else.
-pub mid_with : (s : Setup) (at : ℕ) (left more : List Action) (pending : List ℕ) (w : Running) (r : ListRun) (ds : Drivers) (driving : Driving)
+pub mid_with : (s : Setup) (at : ℕ) (left more : List Action) (pending : List ℕ) (w : Running) (r : WorldRun) (ds : Drivers) (driving : Driving)
     → RunsMid s at left pending w r → AreAtWork s at more pending (drivers_in ds) r.now driving
     → RunsMid s at more pending (record w { drivers = ds }) (record r { driving = driving })
 mid_with s at left more pending w r ds driving h k = record {
@@ -70,7 +69,7 @@ at_any s at other pending k now driving h = record {
   works = h.works;
 }
 
-pub all_at : (s : Setup) (at : ℕ) (w : Running) (r : ListRun) → RunsAll s w r → RunsMid s at [] [] w r
+pub all_at : (s : Setup) (at : ℕ) (w : Running) (r : WorldRun) → RunsAll s w r → RunsMid s at [] [] w r
 all_at s at w r h = record {
   runs_as = h.runs_as;
   drives = at_any s 0 at [] (drivers_in w.drivers) r.now r.driving h.drives;
@@ -78,7 +77,7 @@ all_at s at w r h = record {
   awake = refl;
 }
 
-pub at_all : (s : Setup) (at : ℕ) (w : Running) (r : ListRun) → RunsMid s at [] [] w r → RunsAll s w r
+pub at_all : (s : Setup) (at : ℕ) (w : Running) (r : WorldRun) → RunsMid s at [] [] w r → RunsAll s w r
 at_all s at w r h = record {
   runs_as = h.runs_as;
   drives = at_any s at 0 [] (drivers_in w.drivers) r.now r.driving h.drives;
@@ -86,20 +85,20 @@ at_all s at w r h = record {
   awake = refl;
 }
 
-pub there_in : (s : Setup) (at : ℕ) (left : List Action) (pending : List ℕ) (w : Running) (r : ListRun) (index : ℕ)
+pub there_in : (s : Setup) (at : ℕ) (left : List Action) (pending : List ℕ) (w : Running) (r : WorldRun) (index : ℕ)
     → RunsMid s at left pending w r → index < length w.drivers.list.items → (d : Driver) × (driver_at r index ≡ Some d)
 there_in s at left pending w r index h lt =
     let count : length w.drivers.list.items ≡ length r.driving.drivers = h.drives.each.count in
     get_there r.driving.drivers index (omega (arith, lt, count))
 
-pub within_list : (s : Setup) (at : ℕ) (left : List Action) (pending : List ℕ) (w : Running) (r : ListRun) (index : ℕ) (d : Driver)
+pub within_list : (s : Setup) (at : ℕ) (left : List Action) (pending : List ℕ) (w : Running) (r : WorldRun) (index : ℕ) (d : Driver)
     → RunsMid s at left pending w r → driver_at r index ≡ Some d → index < length w.drivers.list.items
 within_list s at left pending w r index d h there =
     let count : length w.drivers.list.items ≡ length r.driving.drivers = h.drives.each.count in
     omega (arith, count, get_within r.driving.drivers index d there)
 
 -- what it keeps of the session at an index
-pub held_in : (s : Setup) (at : ℕ) (left : List Action) (pending : List ℕ) (w : Running) (r : ListRun) (index : ℕ) (d : Driver)
+pub held_in : (s : Setup) (at : ℕ) (left : List Action) (pending : List ℕ) (w : Running) (r : WorldRun) (index : ℕ) (d : Driver)
     → RunsMid s at left pending w r → driver_at r index ≡ Some d
     → (held : Held) × (slice_get w.drivers.list.items index ≡ Some held) × IsOne r.now held d (left_of at left index)
 held_in s at left pending w r index d h there =
@@ -108,7 +107,7 @@ held_in s at left pending w r index d h there =
     (x.0, x.1, h.drives.each.each index x.0 d x.1 there)
 
 -- its link is that of the session of the run
-pub link_of : (s : Setup) (at : ℕ) (left : List Action) (pending : List ℕ) (w : Running) (r : ListRun) (index : ℕ) (d : Driver) (held : Held)
+pub link_of : (s : Setup) (at : ℕ) (left : List Action) (pending : List ℕ) (w : Running) (r : WorldRun) (index : ℕ) (d : Driver) (held : Held)
     → RunsMid s at left pending w r → driver_at r index ≡ Some d → held ≡ get_or w.drivers.list.items index held → held.link ≡ d.link
 link_of s at left pending w r index d held h there e =
     let x = held_in s at left pending w r index d h there in
@@ -126,11 +125,11 @@ held_at s at left pending k now driving index d h there =
 
 -- ---- a session is put in the place of itself, and nothing else changes
 
-pub same_run : (r : ListRun) (k : ℕ) (d : Driver) → driver_at r k ≡ Some d → with_driver r k d ≡ r
+pub same_run : (r : WorldRun) (k : ℕ) (d : Driver) → driver_at r k ≡ Some d → with_driver r k d ≡ r
 same_run r k d e =
     ap (λ (ds : List Driver). record r { driving = record r.driving { drivers = ds } }) (set_back r.driving.drivers k d e)
 
-pub feeds_with : (s : Setup) (r : ListRun) (k : ℕ) (d : Driver) (i : ℕ) (piece : List ℕ)
+pub feeds_with : (s : Setup) (r : WorldRun) (k : ℕ) (d : Driver) (i : ℕ) (piece : List ℕ)
     → feeds (cluster_of s) (with_driver r k d) i piece ≡ with_driver (feeds (cluster_of s) r i piece) k d
 feeds_with s r k d i piece = go (slice_get r.clients i) where
   one : (b : Bool) (c : Client) → cond b (with_driver r k d) (fed (cluster_of s) (with_driver r k d) i c piece)
@@ -142,7 +141,7 @@ feeds_with s r k d i piece = go (slice_get r.clients i) where
   go None = refl
   go (Some c) = one c.closed c
 
-pub closes_with : (r : ListRun) (k : ℕ) (d : Driver) (i : ℕ) → closes (with_driver r k d) i ≡ with_driver (closes r i) k d
+pub closes_with : (r : WorldRun) (k : ℕ) (d : Driver) (i : ℕ) → closes (with_driver r k d) i ≡ with_driver (closes r i) k d
 closes_with r k d i = go (slice_get r.clients i) where
   one : (b : Bool) (c : Client) → cond b (with_driver r k d) (closed_at (with_driver r k d) i c) ≡ with_driver (cond b r (closed_at r i c)) k d
   one true c = refl
@@ -155,13 +154,13 @@ closes_with r k d i = go (slice_get r.clients i) where
 -- ---- the effects of an action
 
 -- What an action does where this is told of it at once: it leads from where it is done at its own link to where it is done.
-abbrev pub DoesSo : Setup → ℕ → ℕ → ListRun → Driver → Action → ListRun → Type 0
+abbrev pub DoesSo : Setup → ℕ → ℕ → WorldRun → Driver → Action → WorldRun → Type 0
 DoesSo s line k r d action t = (None ≡ joined (cluster_of s) (Some action)) × (t ≡ does_by (cluster_of s) line k r d action)
 
 pub without : (d : Driver) → d.link ≡ None → record d { link = None } ≡ d
 without d e = ap (λ (o : Option Link). record d { link = o }) (sym e)
 
-pub nothing_more : (s : Setup) (line k : ℕ) (r : ListRun) (d : Driver) (action : Action) → driver_at r k ≡ Some d
+pub nothing_more : (s : Setup) (line k : ℕ) (r : WorldRun) (d : Driver) (action : Action) → driver_at r k ≡ Some d
     → Nothing ≡ effect_of d action → DoesSo s line k r d action (with_own r k d action)
 nothing_more s line k r d (Connect address) there e = absurd (cc)
 nothing_more s line k r d (Send bytes) there e = (refl, refl)
@@ -176,7 +175,7 @@ nothing_more s line k r d (Sleep until) there e = absurd (cc)
 nothing_more s line k r d Receive there e = (refl, same_run r k d there)
 nothing_more s line k r d (Finish result) there e = absurd (cc)
 
-pub parts_so : (s : Setup) (line k : ℕ) (r : ListRun) (d : Driver) (action : Action) (conn : ℕ) (bytes : List ℕ)
+pub parts_so : (s : Setup) (line k : ℕ) (r : WorldRun) (d : Driver) (action : Action) (conn : ℕ) (bytes : List ℕ)
     → Parts conn bytes ≡ effect_of d action
     → DoesSo s line k r d action (closes (feeds (cluster_of s) (with_own r k d action) (conn - 1) bytes) (conn - 1))
 parts_so s line k r d (Connect address) conn bytes e = absurd (cc)
@@ -193,7 +192,7 @@ parts_so s line k r d Close conn bytes e = go d.link refl e where
         refl,
         ap (λ (n : ℕ). closes (feeds (cluster_of s) (with_driver r k gone) (n - 1) bytes) (n - 1)) conn_is
             ∙ ap (λ (x : List ℕ). closes (feeds (cluster_of s) (with_driver r k gone) i x) i) bytes_are
-            ∙ ap (λ (x : ListRun). closes x i) (feeds_with s r k gone i (bytes_in link.up))
+            ∙ ap (λ (x : WorldRun). closes x i) (feeds_with s r k gone i (bytes_in link.up))
             ∙ closes_with (feeds (cluster_of s) r i (bytes_in link.up)) k gone i
             ∙ ap (parts (cluster_of s) k d r) (sym f),
       )
@@ -202,11 +201,11 @@ parts_so s line k r d Receive conn bytes e = absurd (cc)
 parts_so s line k r d (Finish result) conn bytes e = absurd (cc)
 
 -- an action that is done elsewhere than at its own link
-pub record Elsewhere (r : ListRun) (k : ℕ) (d : Driver) (action whole : Action) : Type 0 where
+pub record Elsewhere (r : WorldRun) (k : ℕ) (d : Driver) (action whole : Action) : Type 0 where
   pub is : action ≡ whole
   pub same : with_own r k d action ≡ r
 
-pub sleeps_so : (r : ListRun) (k : ℕ) (d : Driver) (action : Action) (until : ℕ) → driver_at r k ≡ Some d
+pub sleeps_so : (r : WorldRun) (k : ℕ) (d : Driver) (action : Action) (until : ℕ) → driver_at r k ≡ Some d
     → Sleeps until ≡ effect_of d action → Elsewhere r k d action (Sleep until)
 sleeps_so r k d (Connect address) until there e = absurd (cc)
 sleeps_so r k d (Send bytes) until there e = absurd (cc)
@@ -218,7 +217,7 @@ sleeps_so r k d (Sleep other) until there e = record { is = cc; same = same_run 
 sleeps_so r k d Receive until there e = absurd (cc)
 sleeps_so r k d (Finish result) until there e = absurd (cc)
 
-pub ends_so : (r : ListRun) (k : ℕ) (d : Driver) (action : Action) (ended : Result WorkDone WorkError) → driver_at r k ≡ Some d
+pub ends_so : (r : WorldRun) (k : ℕ) (d : Driver) (action : Action) (ended : Result WorkDone WorkError) → driver_at r k ≡ Some d
     → Ends ended ≡ effect_of d action → Elsewhere r k d action (Finish ended)
 ends_so r k d (Connect address) ended there e = absurd (cc)
 ends_so r k d (Send bytes) ended there e = absurd (cc)
@@ -230,7 +229,7 @@ ends_so r k d (Sleep until) ended there e = absurd (cc)
 ends_so r k d Receive ended there e = absurd (cc)
 ends_so r k d (Finish result) ended there e = record { is = cc; same = same_run r k d there }
 
-pub joins_so : (r : ListRun) (k : ℕ) (d : Driver) (action : Action) (address : List ℕ) → driver_at r k ≡ Some d
+pub joins_so : (r : WorldRun) (k : ℕ) (d : Driver) (action : Action) (address : List ℕ) → driver_at r k ≡ Some d
     → Joins address ≡ effect_of d action → Elsewhere r k d action (Connect address)
 joins_so r k d (Connect other) address there e = record { is = cc; same = same_run r k d there }
 joins_so r k d (Send bytes) address there e = absurd (cc)
@@ -244,15 +243,15 @@ joins_so r k d (Finish result) address there e = absurd (cc)
 
 -- ---- one action after another
 
-pub all_first : (s : Setup) (line k : ℕ) (action : Action) (behind : List Action) (r : ListRun) (d : Driver) → driver_at r k ≡ Some d
+pub all_first : (s : Setup) (line k : ℕ) (action : Action) (behind : List Action) (r : WorldRun) (d : Driver) → driver_at r k ≡ Some d
     → does_all (cluster_of s) line k behind (does_by (cluster_of s) line k r d action) ≡ does_all (cluster_of s) line k (action ∷ behind) r
 unfolding does_all
 all_first s line k action behind r d there =
     ap (λ (o : Option Driver). does_all (cluster_of s) line k behind (does_at o)) (sym there) where
-      does_at : Option Driver → ListRun
+      does_at : Option Driver → WorldRun
       does_at o = does (cluster_of s) line k r o action
 
-pub all_done : (s : Setup) (line k : ℕ) (r : ListRun) → does_all (cluster_of s) line k [] r ≡ r
+pub all_done : (s : Setup) (line k : ℕ) (r : WorldRun) → does_all (cluster_of s) line k [] r ≡ r
 unfolding does_all
 all_done s line k r = refl
 
@@ -283,7 +282,7 @@ same_at at left = elim (eqb_tells at at) [
   | inr h ↦ absurd (h.1 refl)
 ]
 
-pub queued_is : (s : Setup) (at : ℕ) (left : List Action) (pending : List ℕ) (w : Running) (r : ListRun) (d : Driver)
+pub queued_is : (s : Setup) (at : ℕ) (left : List Action) (pending : List ℕ) (w : Running) (r : WorldRun) (d : Driver)
     → RunsMid s at left pending w r → driver_at r at ≡ Some d → queued_in (slice_get w.drivers.list.items at) ≡ length left
 queued_is s at left pending w r d h there =
     let x = held_in s at left pending w r at d h there in

@@ -6,7 +6,7 @@ use Rattle.ncc_world.specs.declared.setup.Setup.{Setup}
 use Rattle.ncc_world.specs.declared.seen.MemberSeen.{MemberSeen}
 use Rattle.ncc_world.specs.Setting.{Lists}
 use Rattle.ncc_world.specs.Showing.{member_seen, members_from}
-use Rattle.ncc_world.specs.World.{IsShelf, AreShelves, AreMembers}
+use Rattle.ncc_world.specs.World.{IsShelf, AreShelves, AreOneList}
 
 -- as many lists without an item
 abbrev pub empties : ℕ → Lists
@@ -65,7 +65,7 @@ empties_count (suc n) = ap suc (empties_count n)
 
 -- they are the members at the beginning
 pub first_members : (s : Setup) (n : ℕ) (items : List Item) (shelves : List Shelved) (seen : List MemberSeen) → 0 < n
-    → AreFirst s n items shelves seen → AreMembers s (record { items = items; shelves = shelves; seen = seen }) (empties n)
+    → AreFirst s n items shelves seen → AreOneList s (record { items = items; shelves = shelves; seen = seen }) (empties n)
 first_members s n items shelves seen h k = record {
   shelves = subst (λ (l : List Item). AreShelves l shelves (empties n)) (sym k.none) k.shelves_are;
   first = first_list n ∙ sym k.none;

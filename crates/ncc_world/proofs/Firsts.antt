@@ -24,7 +24,7 @@ use Rattle.ncc_clients.specs.Run.{Client, Placing, tells, reply, question_of, de
 use Rattle.ncc_clients.specs.Turn.{acts, is_answer}
 use Rattle.ncc_world.specs.declared.setup.Setup.{Setup}
 use Rattle.ncc_world.specs.Setting.{cluster_of}
-use Rattle.ncc_world.specs.Happening.{ListRun}
+use Rattle.ncc_world.specs.Happening.{WorldRun}
 use Rattle.ncc_world.specs.World.{AreNumbered, IsSomewhere, IsThere, listed, parked_by, parked_of, parked_one, parked_at, place_for}
 use Rattle.ncc_world.specs.Parts.{first_where, lower, number_of}
 use Rattle.ncc_world.proofs.Rooms.{eq_no, lt_no, lt_yes}
@@ -92,7 +92,7 @@ leaves_due list now deadline conn false placing h = sym (due_zero (length list) 
 leaves_due list now deadline conn true None h = sym (due_zero (length list) now conn deadline)
 leaves_due list now deadline conn true (Some p) h = lands_due list now deadline p h (outcome_of (length list) p.place now deadline) refl
 
-asked_due : (s : Setup) (r : ListRun) (c : Client) (o : Option Question) → question_of (cluster_of s) c ≡ o → IsSomewhere c.placing
+asked_due : (s : Setup) (r : WorldRun) (c : Client) (o : Option Question) → question_of (cluster_of s) c ≡ o → IsSomewhere c.placing
     → acts (cluster_of s) r c
     ≡ is_due (at_of (cluster_of s) r.members c.member) r.now (parked_by c.number (deadline_of (cluster_of s) c) c.placing o)
 unfolding reply
@@ -103,7 +103,7 @@ asked_due s r c (Some (leave calls told)) e h = rw e (leaves_due _ r.now _ c.num
 asked_due s r c (Some leave_noop) e h = rw e (sym (due_zero _ r.now c.number _))
 asked_due s r c (Some route) e h = rw e (sym (due_zero _ r.now c.number _))
 
-pub acts_due : (s : Setup) (r : ListRun) (c : Client) → IsSomewhere c.placing
+pub acts_due : (s : Setup) (r : WorldRun) (c : Client) → IsSomewhere c.placing
     → acts (cluster_of s) r c ≡ is_due (at_of (cluster_of s) r.members c.member) r.now (parked_of s c)
 acts_due s r c h = asked_due s r c (question_of (cluster_of s) c) refl h
 
@@ -126,7 +126,7 @@ conn_is number deadline placing (Some q) p e = ap (λ (o : Option Parked). conn_
   conn_or None = number
   conn_or (Some x) = x.conn
 
-pub next_is : (s : Setup) (r : ListRun) (count at m : ℕ) (cs : List Client) → at ≡ at_of (cluster_of s) r.members m
+pub next_is : (s : Setup) (r : WorldRun) (count at m : ℕ) (cs : List Client) → at ≡ at_of (cluster_of s) r.members m
     → AllByRecursion (IsThere count) cs
     → number_of (next at r.now (parked_at s m cs)) ≡ first_where (λ c. acts (cluster_of s) r c && (c.member == m)) cs
 unfolding next parked_at first_where
@@ -213,10 +213,10 @@ first_never p P (c ∷ cs) h f = ap (λ (b : Bool). cond b (Some c.number) (firs
 
 -- ---- member by member
 
-abbrev pub first_within : Setup → ListRun → ℕ → Option ℕ
+abbrev pub first_within : Setup → WorldRun → ℕ → Option ℕ
 first_within s r m = first_where (λ c. acts (cluster_of s) r c && nat_le c.member m) r.clients
 
-pub within_none : (s : Setup) (r : ListRun) (count : ℕ) → AllByRecursion (IsThere count) r.clients → None ≡ first_within s r 0
+pub within_none : (s : Setup) (r : WorldRun) (count : ℕ) → AllByRecursion (IsThere count) r.clients → None ≡ first_within s r 0
 within_none s r count h = sym (first_never _ (IsThere count) r.clients h (λ c k. go (acts (cluster_of s) r c) c k)) where
   go : (a : Bool) (c : Client) → IsThere count c → (a && nat_le c.member 0) ≡ false
   go true c k = elim (leb_tells c.member 0) [ inl l ↦ absurd (omega (arith, l.1, k.low)) | inr l ↦ l.0 ]
@@ -245,7 +245,7 @@ split true member m = elim (leb_tells member m) [
       | inr l ↦ l.1
     ]
 
-pub within_more : (s : Setup) (r : ListRun) (count at m : ℕ) (room : List Parked) → at ≡ at_of (cluster_of s) r.members (m + 1)
+pub within_more : (s : Setup) (r : WorldRun) (count at m : ℕ) (room : List Parked) → at ≡ at_of (cluster_of s) r.members (m + 1)
     → room ≡ parked_at s (m + 1) r.clients → AreNumbered 1 r.clients → AllByRecursion (IsThere count) r.clients
     → lower (first_within s r m) (number_of (next at r.now room)) ≡ first_within s r (m + 1)
 within_more s r count at m room e f n h =
@@ -254,7 +254,7 @@ within_more s r count at m room e f n h =
     ∙ first_of_both (λ c. acts (cluster_of s) r c && nat_le c.member m) (λ c. acts (cluster_of s) r c && (c.member == m + 1)) 1 r.clients n
     ∙ first_same _ _ (IsThere count) r.clients h (λ c k. split (acts (cluster_of s) r c) c.member m)
 
-pub within_all : (s : Setup) (r : ListRun) (count : ℕ) → AllByRecursion (IsThere count) r.clients
+pub within_all : (s : Setup) (r : WorldRun) (count : ℕ) → AllByRecursion (IsThere count) r.clients
     → first_within s r count ≡ first_where (acts (cluster_of s) r) r.clients
 within_all s r count h = first_same _ _ (IsThere count) r.clients h (λ c k. go (acts (cluster_of s) r c) c k) where
   go : (a : Bool) (c : Client) → IsThere count c → (a && nat_le c.member count) ≡ a

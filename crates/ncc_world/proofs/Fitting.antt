@@ -31,8 +31,8 @@ use Rattle.ncc_clients.specs.Run.{Client, Placing, waits, tells, reply, reply_by
 use Rattle.ncc_world.specs.declared.setup.Setup.{Setup}
 use Rattle.ncc_world.specs.declared.seen.ConnSeen.{ConnSeen}
 use Rattle.ncc_world.specs.declared.served.Served.{Served}
-use Rattle.ncc_world.specs.Setting.{cluster_of}
-use Rattle.ncc_world.specs.Happening.{ListRun}
+use Rattle.ncc_world.specs.Setting.{cluster_of, lists_of}
+use Rattle.ncc_world.specs.Happening.{WorldRun}
 use Rattle.ncc_world.specs.World.{IsClient, asked_by}
 use Rattle.ncc_world.proofs.Rooms.{eq_yes}
 use Rattle.ncc_world.proofs.Keeping.{asked_is}
@@ -117,16 +117,16 @@ leave_fits calls told list now deadline true None fact w e = absurd (cc)
 leave_fits calls told list now deadline true (Some p) fact w e =
     lands_fits calls told list now p (outcome_of (length list) p.place now deadline) (stamp_of p.place (stamps list)) fact w refl e
 
-pub answer_fits : (s : Setup) (r : ListRun) (c : Client) (q : Question) (fact : Fact) → answers (cluster_of s) r c q ≡ tells fact
+pub answer_fits : (s : Setup) (r : WorldRun) (c : Client) (q : Question) (fact : Fact) → answers (cluster_of s) r c q ≡ tells fact
     → IsTrue (fits q fact)
 answer_fits s r c (enter need) fact e = enter_fits _ need r.now _ fact e
 answer_fits s r c (run calls) fact e =
-    let list : List Item = get_or r.members (c.member - 1) [] in
+    let list : List Item = get_or (lists_of r.members) (c.member - 1) [] in
     run_by ((cluster_of s).leads r.members c.member) (last_writes calls) calls (ran (length list) (exec (state list) calls)) fact refl
     (ran_fits (state list) (length list) calls (exec (state list) calls) refl (placed_from _ list placed_none)) e
 answer_fits s r c (leave calls told) fact e =
-    leave_fits calls told (get_or r.members (c.member - 1) []) r.now (deadline_of (cluster_of s) c) (some_writes calls) c.placing fact refl e
-answer_fits s r c leave_noop fact e = told_by leave_noop (f.Done (length (get_or r.members (c.member - 1) []))) fact refl e
+    leave_fits calls told (get_or (lists_of r.members) (c.member - 1) []) r.now (deadline_of (cluster_of s) c) (some_writes calls) c.placing fact refl e
+answer_fits s r c leave_noop fact e = told_by leave_noop (f.Done (length (get_or (lists_of r.members) (c.member - 1) []))) fact refl e
 answer_fits s r c route fact e = told_by route (f.Routed ((cluster_of s).leader r.members c.member)) fact refl e
 
 -- so it does at the session
@@ -139,13 +139,13 @@ pub fits_here : (s : Setup) (v : Served) (seen : ConnSeen) (c : Client) (q : Que
     → question_of (cluster_of s) c ≡ Some q → IsTrue (fits q fact) → IsTrue (fits_at (asked v.conn) fact)
 fits_here s v seen c q fact k e h = asked_open v v.closed q fact refl (asked_is s v seen c k.kept ∙ e) h
 
-told_question : (s : Setup) (r : ListRun) (v : Served) (seen : ConnSeen) (c : Client) (fact : Fact) (o : Option Question)
+told_question : (s : Setup) (r : WorldRun) (v : Served) (seen : ConnSeen) (c : Client) (fact : Fact) (o : Option Question)
     → question_of (cluster_of s) c ≡ o → IsClient s v seen c → reply (cluster_of s) r c ≡ tells fact → IsTrue (fits_at (asked v.conn) fact)
 unfolding reply
 told_question s r v seen c fact None e k h = absurd (let z : waits ≡ tells fact = ap (λ (o : Option Question). reply_by (cluster_of s) r c o) (sym e) ∙ h in cc)
 told_question s r v seen c fact (Some q) e k h =
     fits_here s v seen c q fact k e (answer_fits s r c q fact (reply_some s r c q e ∙ h))
 
-pub told_fits : (s : Setup) (r : ListRun) (v : Served) (seen : ConnSeen) (c : Client) (fact : Fact) → IsClient s v seen c
+pub told_fits : (s : Setup) (r : WorldRun) (v : Served) (seen : ConnSeen) (c : Client) (fact : Fact) → IsClient s v seen c
     → reply (cluster_of s) r c ≡ tells fact → IsTrue (fits_at (asked v.conn) fact)
 told_fits s r v seen c fact k h = told_question s r v seen c fact (question_of (cluster_of s) c) refl k h

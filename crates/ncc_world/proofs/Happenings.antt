@@ -17,9 +17,9 @@ use Rattle.ncc_clients.specs.Moment.{Path, Here, IsOpen, Proposes}
 use Rattle.ncc_clients.specs.Laws.{IsAnswered, EachFactIsLawful}
 use Rattle.ncc_world.specs.declared.setup.Setup.{Setup}
 use Rattle.ncc_world.specs.declared.event.Event.{Event}
-use Rattle.ncc_world.specs.Setting.{Lists, cluster_of, nobody}
+use Rattle.ncc_world.specs.Setting.{cluster_of, Seats, seats_of}
 use Rattle.ncc_world.specs.Events.{CountsSome}
-use Rattle.ncc_world.specs.Happening.{ListRun, start_of, own, Passes, Happens, RunsOn, Within}
+use Rattle.ncc_world.specs.Happening.{WorldRun, start_of, own, Passes, Happens, RunsOn, Within}
 use Rattle.ncc_world.specs.Headline.{IsLawful, FactsAreLawful}
 use Rattle.ncc_world.proofs.Settling.{path_through, Asking, asking, told_waits, proposed_waits}
 use Rattle.ncc_world.proofs.Silent.{Leads, rises_leads, descends_leads}
@@ -27,8 +27,8 @@ use Rattle.ncc_world.proofs.Pumping.{some_up, counts_less}
 use Rattle.ncc_world.proofs.Moments.{Ways, Kind, pumps, plain, kind_of, own_leads, runs_more, moment_from}
 
 -- a fact as it was told: all that a lawful one has, and the way from there
-record IsTold (s : Setup) (es : List (ℕ × Event)) (r : ListRun) (earlier : List Told) (t : Told) : Type 0 where
-  moment : ListRun
+record IsTold (s : Setup) (es : List (ℕ × Event)) (r : WorldRun) (earlier : List Told) (t : Told) : Type 0 where
+  moment : WorldRun
   within : Within s es t.line moment
   told_then : moment.told ≡ earlier
   index : ℕ
@@ -41,11 +41,11 @@ record IsTold (s : Setup) (es : List (ℕ × Event)) (r : ListRun) (earlier : Li
   turn : Turn (cluster_of s) t.line moment (told_to t.line moment index client t.fact)
   since : Path (cluster_of s) (told_to t.line moment index client t.fact) r
 
-abbrev AllTold : Setup → List (ℕ × Event) → ListRun → Type 0
+abbrev AllTold : Setup → List (ℕ × Event) → WorldRun → Type 0
 AllTold s es r = (k : ℕ) (t : Told) → slice_get r.told k ≡ Some t → IsTold s es r (take k r.told) t
 
 -- later it was still told so
-told_on : (s : Setup) (es : List (ℕ × Event)) (r u : ListRun) (earlier : List Told) (t : Told) → Path (cluster_of s) r u
+told_on : (s : Setup) (es : List (ℕ × Event)) (r u : WorldRun) (earlier : List Told) (t : Told) → Path (cluster_of s) r u
     → IsTold s es r earlier t → IsTold s es u earlier t
 told_on s es r u earlier t p h = record {
   moment = h.moment;
@@ -62,7 +62,7 @@ told_on s es r u earlier t p h = record {
   since = path_through (cluster_of s) (told_to t.line h.moment h.index h.client t.fact) r u h.since p;
 }
 
-all_told_on : (s : Setup) (es : List (ℕ × Event)) (r u : ListRun) → Path (cluster_of s) r u → u.told ≡ r.told → AllTold s es r
+all_told_on : (s : Setup) (es : List (ℕ × Event)) (r u : WorldRun) → Path (cluster_of s) r u → u.told ≡ r.told → AllTold s es r
     → AllTold s es u
 all_told_on s es r u p e h = λ k t g.
     let there : slice_get r.told k ≡ Some t = subst (λ ts. slice_get ts k ≡ Some t) e g in
@@ -82,14 +82,14 @@ get_push (z ∷ xs) y (suc i) x e = elim (get_push xs y i x e) [
 ]
 
 -- what makes a fact told at a moment: its connection asks, and is answered by it
-record Answers (s : Setup) (line : ℕ) (m : ListRun) (i : ℕ) (c : Client) (fact : Fact) : Type 0 where
+record Answers (s : Setup) (line : ℕ) (m : WorldRun) (i : ℕ) (c : Client) (fact : Fact) : Type 0 where
   there : IsOpen m i c
   question : Question
   asks : question_of (cluster_of s) c ≡ Some question
   answered : IsAnswered (cluster_of s) m i c fact
   turn : Turn (cluster_of s) line m (told_to line m i c fact)
 
-last_told : (s : Setup) (es : List (ℕ × Event)) (line : ℕ) (m : ListRun) (i : ℕ) (c : Client) (fact : Fact) → Within s es line m
+last_told : (s : Setup) (es : List (ℕ × Event)) (line : ℕ) (m : WorldRun) (i : ℕ) (c : Client) (fact : Fact) → Within s es line m
     → Answers s line m i c fact
     → IsTold s es (told_to line m i c fact) m.told (record { line = line; conn = c.number; fact = fact })
 last_told s es line m i c fact w a = record {
@@ -107,7 +107,7 @@ last_told s es line m i c fact w a = record {
   since = Here (told_to line m i c fact);
 }
 
-one_more : (s : Setup) (es : List (ℕ × Event)) (line : ℕ) (m : ListRun) (i : ℕ) (c : Client) (fact : Fact) → Within s es line m
+one_more : (s : Setup) (es : List (ℕ × Event)) (line : ℕ) (m : WorldRun) (i : ℕ) (c : Client) (fact : Fact) → Within s es line m
     → Answers s line m i c fact → Path (cluster_of s) m (told_to line m i c fact) → AllTold s es m → AllTold s es (told_to line m i c fact)
 one_more s es line m i c fact w a p h = λ k t g. go k t (get_push m.told new k t g) where
   new : Told
@@ -127,7 +127,7 @@ one_more s es line m i c fact w a p h = λ k t g. go k t (get_push m.told new k 
 
 -- ---- a turn
 
-turn_told : (s : Setup) (es : List (ℕ × Event)) (line : ℕ) (m u : ListRun) → Within s es line m → Path (cluster_of s) m u
+turn_told : (s : Setup) (es : List (ℕ × Event)) (line : ℕ) (m u : WorldRun) → Within s es line m → Path (cluster_of s) m u
     → Turn (cluster_of s) line m u → AllTold s es m → AllTold s es u
 turn_told s es line m u w p h all =
     by_reply (reply (cluster_of s) m h.client) refl h.does
@@ -143,11 +143,11 @@ turn_told s es line m u w p h all =
         (record { there = a.there; question = a.question; asks = a.asks; answered = d; turn = turn }) path all)
 
     by_proposal : (entry : Entry) → Proposes (cluster_of s) m h.index h.client entry → Asking (cluster_of s) m h.index h.client
-        → (q : Proposed Lists) → (cluster_of s).propose m.members h.client.member entry ≡ q
+        → (q : Proposed Seats) → (cluster_of s).propose m.members h.client.member entry ≡ q
         → u ≡ proposed (cluster_of s) line m h.index h.client q → AllTold s es u
     by_proposal entry d a elsewhere e g = by_fact Elsewhere g a (inr (entry, d, e))
     by_proposal entry d a (full entries) e g = by_fact (Full entries) g a (inr (entry, d, e))
-    by_proposal entry d a (placed place term after) e g = all_told_on s es m u p (ap (λ (x : ListRun). x.told) g) all
+    by_proposal entry d a (placed place term after) e g = all_told_on s es m u p (ap (λ (x : WorldRun). x.told) g) all
 
     by_reply : (q : Reply) → reply (cluster_of s) m h.client ≡ q → Does (cluster_of s) line m h.index h.client q u → AllTold s es u
     by_reply waits e d = absurd d
@@ -164,34 +164,34 @@ turn_told s es line m u w p h all =
 -- ---- turns, events, and the whole run
 
 -- each moment from this one on, on the way of turns
-abbrev TurnsWithin : Setup → List (ℕ × Event) → ℕ → ListRun → Type 0
-TurnsWithin s es line m = (n : ListRun) → Turns (cluster_of s) line m n → Within s es line n
+abbrev TurnsWithin : Setup → List (ℕ × Event) → ℕ → WorldRun → Type 0
+TurnsWithin s es line m = (n : WorldRun) → Turns (cluster_of s) line m n → Within s es line n
 
-turns_told : (s : Setup) → Ways s → (es : List (ℕ × Event)) (line : ℕ) (m u : ListRun) → TurnsWithin s es line m
+turns_told : (s : Setup) → Ways s → (es : List (ℕ × Event)) (line : ℕ) (m u : WorldRun) → TurnsWithin s es line m
     → Turns (cluster_of s) line m u → AllTold s es m → AllTold s es u
 turns_told s ways es line m u w (Ends _) all = all
 turns_told s ways es line m u w (Turning _ n _ first rest) all =
-    let C : Cluster Lists = cluster_of s in
+    let C : Cluster Seats = cluster_of s in
     let path : Path C m n = ways.small line m n (Turning m n n first (Ends n)) in
     turns_told s ways es line n u (λ o q. w o (Turning m n o first q)) rest (turn_told s es line m n (w m (Ends m)) path first all)
 
-leads_told : (s : Setup) (es : List (ℕ × Event)) (r u : ListRun) → Leads (cluster_of s) r u → AllTold s es r → AllTold s es u
+leads_told : (s : Setup) (es : List (ℕ × Event)) (r u : WorldRun) → Leads (cluster_of s) r u → AllTold s es r → AllTold s es u
 leads_told s es r u h all = all_told_on s es r u h.path h.told all
 
 -- each moment from this one on, where all moves that waits
-abbrev PumpsWithin : Setup → List (ℕ × Event) → (line k : ℕ) → Option ℕ → ListRun → Type 0
-PumpsWithin s es line k limit r = (m : ListRun) → Pumping (cluster_of s) line k limit r m → Within s es line m
+abbrev PumpsWithin : Setup → List (ℕ × Event) → (line k : ℕ) → Option ℕ → WorldRun → Type 0
+PumpsWithin s es line k limit r = (m : WorldRun) → Pumping (cluster_of s) line k limit r m → Within s es line m
 
 module _ (s : Setup) (ways : Ways s) (es : List (ℕ × Event)) (line k : ℕ) where
-  risen_told : (limit : Option ℕ) (r t : ListRun) → (up_at (driver_at r k) ≡ [] → ⊥) → PumpsWithin s es line k limit r
+  risen_told : (limit : Option ℕ) (r t : WorldRun) → (up_at (driver_at r k) ≡ [] → ⊥) → PumpsWithin s es line k limit r
       → Settles (cluster_of s) line (rises (cluster_of s) k limit r) t → AllTold s es r → AllTold s es t
   risen_told limit r t some w h all =
-      let C : Cluster Lists = cluster_of s in
-      let up : ListRun = rises C k limit r in
+      let C : Cluster Seats = cluster_of s in
+      let up : WorldRun = rises C k limit r in
       turns_told s ways es line up t (λ n q. w n (Rising limit r n some q)) h.turns
       (leads_told s es r up (rises_leads C line k limit r) all)
 
-  pumps_told : (limit : Option ℕ) (r t : ListRun) → CountsSome limit → PumpsWithin s es line k limit r
+  pumps_told : (limit : Option ℕ) (r t : WorldRun) → CountsSome limit → PumpsWithin s es line k limit r
       → Pumps (cluster_of s) line k limit r t → AllTold s es r → AllTold s es t
   pumps_told limit r _ counts w (Rests _ _ up down) all = all
   pumps_told limit r t counts w (Stops _ _ _ reached h) all =
@@ -201,30 +201,30 @@ module _ (s : Setup) (ways : Ways s) (es : List (ℕ × Event)) (line k : ℕ) w
       pumps_told (less limit up) m t (counts_less limit counts up more) (λ n q. w n (Risen limit r m n some more h q)) p
       (risen_told limit r m some w h all)
   pumps_told limit r t counts w (Falls _ _ _ none some p) all =
-      let C : Cluster Lists = cluster_of s in
-      let down : ListRun = descends C line k r in
+      let C : Cluster Seats = cluster_of s in
+      let down : WorldRun = descends C line k r in
       pumps_told limit down t counts (λ n q. w n (Fallen limit r n none some q)) p
       (leads_told s es r down (descends_leads C line k r) all)
 
 -- an event
-happens_told : (s : Setup) → Ways s → (es : List (ℕ × Event)) (line : ℕ) (event : Event) → Kind event → (r t : ListRun)
-    → ((m : ListRun) → Passes s line event r m → Within s es line m) → Happens s line event r t → AllTold s es r → AllTold s es t
+happens_told : (s : Setup) → Ways s → (es : List (ℕ × Event)) (line : ℕ) (event : Event) → Kind event → (r t : WorldRun)
+    → ((m : WorldRun) → Passes s line event r m → Within s es line m) → Happens s line event r t → AllTold s es r → AllTold s es t
 happens_told s ways es line _ (pumps session requests) r t w h all =
     let k : ℕ = session - 1 in
     let moved : AllTold s es h.stepped =
     pumps_told s ways es line k requests r h.stepped h.steps.0 (λ m p. w m (h.steps.0, inl p)) h.steps.1 all in
     turns_told s ways es line h.stepped t (λ n q. w n (h.steps.0, inr (h.stepped, h.steps.1, q))) h.settles.turns moved
 happens_told s ways es line event (plain _ same out in_) r t w h all =
-    let u : ListRun = own s line event r in
+    let u : WorldRun = own s line event r in
     let moved : AllTold s es u = leads_told s es r u (own_leads s line event r h.allowed) all in
     let settles : Turns (cluster_of s) line u t = subst (λ x. Turns (cluster_of s) line x t) (same s line r h.stepped h.steps) h.settles.turns in
     turns_told s ways es line u t (λ n q. w n (in_ s line r n q)) settles moved
 
-runs_told : (s : Setup) → Ways s → (es before behind : List (ℕ × Event)) (r end : ListRun) → es ≡ before ++ behind
+runs_told : (s : Setup) → Ways s → (es before behind : List (ℕ × Event)) (r end : WorldRun) → es ≡ before ++ behind
     → RunsOn s before (start_of s) r → AllTold s es r → RunsOn s behind r end → AllTold s es end
 runs_told s ways es before [] r end e ran all h = subst (λ x. AllTold s es x) h all
 runs_told s ways es before (f ∷ behind) r end e ran all h =
-    let w : (m : ListRun) → Passes s f.0 f.1 r m → Within s es f.0 m = λ m q.
+    let w : (m : WorldRun) → Passes s f.0 f.1 r m → Within s es f.0 m = λ m q.
     record {
       before = before;
       event = f.1;
@@ -239,8 +239,8 @@ runs_told s ways es before (f ∷ behind) r end e ran all h =
     runs_told s ways es (before ++ (f ∷ [])) behind h.0 end (e ∙ sym (append_assoc before (f ∷ []) behind))
     (runs_more s before f (start_of s) r h.0 ran h.1) settled h.2
 
-pub facts_are_lawful : (s : Setup) → Ways s → (es : List (ℕ × Event)) (end : ListRun) → RunsOn s es (start_of s) end
-    → EachFactIsLawful (cluster_of s) (nobody s) end → FactsAreLawful s es end
+pub facts_are_lawful : (s : Setup) → Ways s → (es : List (ℕ × Event)) (end : WorldRun) → RunsOn s es (start_of s) end
+    → EachFactIsLawful (cluster_of s) (seats_of s) end → FactsAreLawful s es end
 facts_are_lawful s ways es end h lawful = λ k t e. of (take k end.told) t (all k t e) where
   all : AllTold s es end
   all = runs_told s ways es [] es (start_of s) end refl refl (λ k t e. absurd (cc)) h

@@ -11,7 +11,7 @@ use Rattle.ncc_driver.proofs.LawsLeft.{left_at_most, add_has_two, put_has_one, g
 use Rattle.ncc_clients.specs.Members.{Cluster}
 use Rattle.ncc_clients.specs.Links.{Link, Driver, Parcel}
 use Rattle.ncc_clients.specs.Run.{Run, Client, out_of}
-use Rattle.ncc_clients.specs.Drives.{driver_at, with_driver, held_back, waits_above, does_all, follows_on, joined, last_of, more}
+use Rattle.ncc_clients.specs.Drives.{driver_at, with_driver, held_back, waits_above, does_all, follows_on, joined, last_of}
 use Rattle.ncc_clients.specs.Drives.{falls, comes_down, descends, all_bytes, with_input, up_at, down_at}
 use Rattle.ncc_clients.proofs.Lists.{set_same}
 use Rattle.ncc_clients.specs.declared.task.Task.{Task}

@@ -1,5 +1,9 @@
 pub mod Begun
+pub mod Leading
 pub mod Listed
+pub mod Rafted
+pub mod Rafting
+pub mod Seated
 pub mod Settling
 pub mod Silent
 pub mod Stepping

@@ -24,8 +24,8 @@ use Rattle.ncc_world.specs.declared.served.ProposedAt.{ProposedAt}
 use Rattle.ncc_world.specs.declared.served.Served.{Served}
 use Rattle.ncc_world.specs.declared.served.Change.{Change}
 use Rattle.ncc_world.specs.declared.served.Change.TheVariants as change
-use Rattle.ncc_world.specs.Setting.{cluster_of}
-use Rattle.ncc_world.specs.Happening.{ListRun}
+use Rattle.ncc_world.specs.Setting.{cluster_of, lists_of}
+use Rattle.ncc_world.specs.Happening.{WorldRun}
 use Rattle.ncc_world.specs.World.{IsClient, placing_of}
 use Rattle.ncc_world.specs.Parts.{Lowers, left_at}
 use Rattle.ncc_world.proofs.Turning.{reply_some}
@@ -65,17 +65,17 @@ none_by list now deadline false placing e = absurd (cc)
 none_by list now deadline true None e = refl
 none_by list now deadline true (Some p) e = absurd (not_landed list now p (outcome_of (length list) p.place now deadline) e)
 
-none_for : (s : Setup) (r : ListRun) (c : Client) (entry : Entry) → answers (cluster_of s) r c (leave_of entry) ≡ proposes
+none_for : (s : Setup) (r : WorldRun) (c : Client) (entry : Entry) → answers (cluster_of s) r c (leave_of entry) ≡ proposes
     → c.placing ≡ None
 none_for s r c e.Noop h = absurd (cc)
 none_for s r c (e.Tx steps told) h =
-    none_by (get_or r.members (c.member - 1) []) r.now (deadline_of (cluster_of s) c) (some_writes (map call_of steps)) c.placing h
+    none_by (get_or (lists_of r.members) (c.member - 1) []) r.now (deadline_of (cluster_of s) c) (some_writes (map call_of steps)) c.placing h
 
 none_kept : (o : Option ProposedAt) → placing_of o ≡ None → o ≡ None
 none_kept None e = refl
 none_kept (Some p) e = absurd (cc)
 
-pub unplaced : (s : Setup) (r : ListRun) (v : Served) (seen : ConnSeen) (c : Client) (entry : Entry) → IsClient s v seen c
+pub unplaced : (s : Setup) (r : WorldRun) (v : Served) (seen : ConnSeen) (c : Client) (entry : Entry) → IsClient s v seen c
     → question_of (cluster_of s) c ≡ Some (leave_of entry) → reply (cluster_of s) r c ≡ proposes → v.placing ≡ None
 unplaced s r v seen c entry k e h =
     none_kept v.placing (k.kept.placing ∙ none_for s r c entry (reply_some s r c (leave_of entry) e ∙ h))

@@ -7,15 +7,15 @@ use Rattle.std.specs.Prelude.{nat_le}
 use Rattle.ncc_driver.specs.LawsFits.{AreBytes}
 use Rattle.ncc_clients.specs.Links.{Link, Driver, Parcel, requests_in}
 use Rattle.ncc_clients.specs.Turn.{Settles}
-use Rattle.ncc_clients.specs.Drives.{driver_at, up_at, down_at, is_reached, less, rises, descends, falls, all_bytes}
-use Rattle.ncc_clients.specs.Drives.{Pumps, Rests, Stops, Lifts, Falls}
+use Rattle.ncc_clients.specs.Drives.{driver_at, up_at, down_at, rises, descends, falls, all_bytes}
+use Rattle.ncc_clients.specs.Drives.{Rests, Stops, Lifts, Falls}
 use Rattle.ncc_clients.specs.Held.{waiting_in, waiting_on}
 use Rattle.ncc_clients.specs.Measure.{number}
 use Rattle.ncc_clients.proofs.Lowering.{rises_lower}
 use Rattle.ncc_world.specs.declared.setup.Setup.{Setup}
 use Rattle.ncc_world.specs.declared.running.Running.{Running}
 use Rattle.ncc_world.specs.Setting.{cluster_of}
-use Rattle.ncc_world.specs.Happening.{ListRun}
+use Rattle.ncc_world.specs.Happening.{WorldRun}
 use Rattle.ncc_world.specs.Parts.{MovesOnce, PumpsOn, RunsAll, left_after}
 use Rattle.ncc_world.proofs.Lessening.{IsShort, falls_lower}
 use Rattle.ncc_world.proofs.Rising.{falls_nothing, falls_same}
@@ -42,17 +42,17 @@ none_on None e = refl
 none_on (Some link) e = waiting_none link.up e
 
 -- so many requests wait, or nothing
-pub some_waits : (r : ListRun) (k : ℕ) (d : Driver) (n : ℕ) → driver_at r k ≡ Some d → Some n ≡ waiting_on d.link
+pub some_waits : (r : WorldRun) (k : ℕ) (d : Driver) (n : ℕ) → driver_at r k ≡ Some d → Some n ≡ waiting_on d.link
     → (up_at (driver_at r k) ≡ [] → ⊥) × (n ≡ requests_in (up_at (driver_at r k)))
 some_waits r k d n there e =
     subst (λ (o : Option Driver). (up_at o ≡ [] → ⊥) × (n ≡ requests_in (up_at o))) (sym there) (some_on d.link n e)
 
-pub none_waits : (r : ListRun) (k : ℕ) (d : Driver) → driver_at r k ≡ Some d → None ≡ waiting_on d.link → up_at (driver_at r k) ≡ []
+pub none_waits : (r : WorldRun) (k : ℕ) (d : Driver) → driver_at r k ≡ Some d → None ≡ waiting_on d.link → up_at (driver_at r k) ≡ []
 none_waits r k d there e = subst (λ (o : Option Driver). up_at o ≡ []) (sym there) (none_on d.link e)
 
 -- ---- up
 
-moved_up : (s : Setup) (line k : ℕ) (limit : Option ℕ) (r m : ListRun) (new : Running) → (up_at (driver_at r k) ≡ [] → ⊥)
+moved_up : (s : Setup) (line k : ℕ) (limit : Option ℕ) (r m : WorldRun) (new : Running) → (up_at (driver_at r k) ≡ [] → ⊥)
     → Settles (cluster_of s) line (rises (cluster_of s) k limit r) m → RunsAll s new m
     → MovesOnce s line k limit r (left_after limit (requests_in (up_at (driver_at r k)))) new
 moved_up s line k None r m new some settles h = (
@@ -73,7 +73,7 @@ moved_up s line k (Some count) r m new some settles h = go (nat_le count (reques
   )
 
 -- All that may go up went up, and was answered.
-pub moves_up : (s : Setup) (line k : ℕ) (limit : Option ℕ) (r m : ListRun) (d : Driver) (n : ℕ) (new : Running) → driver_at r k ≡ Some d
+pub moves_up : (s : Setup) (line k : ℕ) (limit : Option ℕ) (r m : WorldRun) (d : Driver) (n : ℕ) (new : Running) → driver_at r k ≡ Some d
     → Some n ≡ waiting_on d.link → Settles (cluster_of s) line (rises (cluster_of s) k limit r) m → RunsAll s new m
     → MovesOnce s line k limit r (left_after limit n) new
 moves_up s line k limit r m d n new there e settles h =
@@ -95,7 +95,7 @@ none_length (x ∷ xs) e = elim (leb_tells 1 (length (x ∷ xs))) [
 ]
 
 -- Nothing was left to move.
-pub moves_none : (s : Setup) (line k count : ℕ) (limit : Option ℕ) (r : ListRun) (d : Driver) (new : Running) → driver_at r k ≡ Some d
+pub moves_none : (s : Setup) (line k count : ℕ) (limit : Option ℕ) (r : WorldRun) (d : Driver) (new : Running) → driver_at r k ≡ Some d
     → None ≡ waiting_on d.link → length (down_at (cluster_of s) r (driver_at r k)) ≤ count
     → false ≡ nat_le 1 (length (take count (down_at (cluster_of s) r (driver_at r k))))
     → RunsAll s new (falls (cluster_of s) line k r (driver_at r k) (take count)) → MovesOnce s line k limit r None new
@@ -105,11 +105,11 @@ moves_none s line k count limit r d new there e le none h =
     let nothing = none_length (take count (down_at (cluster_of s) r (driver_at r k))) none in (
       r,
       (Rests limit r (none_waits r k d there e) (sym all ∙ nothing), tt),
-      subst (λ (x : ListRun). RunsAll s new x) (sym (falls_nothing s line k r (take count) nothing)) h,
+      subst (λ (x : WorldRun). RunsAll s new x) (sym (falls_nothing s line k r (take count) nothing)) h,
     )
 
 -- All that was written came down.
-pub moves_down : (s : Setup) (line k count : ℕ) (limit : Option ℕ) (r : ListRun) (d : Driver) (new : Running) → driver_at r k ≡ Some d
+pub moves_down : (s : Setup) (line k count : ℕ) (limit : Option ℕ) (r : WorldRun) (d : Driver) (new : Running) → driver_at r k ≡ Some d
     → IsShort d → None ≡ waiting_on d.link → length (down_at (cluster_of s) r (driver_at r k)) ≤ count
     → AreBytes (take count (down_at (cluster_of s) r (driver_at r k)))
     → true ≡ nat_le 1 (length (take count (down_at (cluster_of s) r (driver_at r k))))
@@ -118,7 +118,7 @@ moves_down s line k count limit r d new there short e le bytes some h = (
   falls (cluster_of s) line k r (driver_at r k) (take count),
   λ t p. goes t (falls (cluster_of s) line k r (driver_at r k) (take count)) same p,
   h,
-  subst (λ (m : ListRun). number (cluster_of s) k m < number (cluster_of s) k r) (sym same)
+  subst (λ (m : WorldRun). number (cluster_of s) k m < number (cluster_of s) k r) (sym same)
       (falls_lower (cluster_of s) k line r d there short (none_on d.link e)
       (λ f. not_none (ap (λ (o : Option Driver). down_at (cluster_of s) r o) there ∙ f))),
 ) where
@@ -134,9 +134,9 @@ moves_down s line k count limit r d new there short e le bytes some h = (
   same : falls (cluster_of s) line k r (driver_at r k) (take count) ≡ descends (cluster_of s) line k r
   same = falls_same s line k r (take count) all_bytes all
 
-  goes : (t m : ListRun) → m ≡ descends (cluster_of s) line k r → PumpsOn s line k limit m t → PumpsOn s line k limit r t
+  goes : (t m : WorldRun) → m ≡ descends (cluster_of s) line k r → PumpsOn s line k limit m t → PumpsOn s line k limit r t
   goes t m f p =
-      let q : PumpsOn s line k limit (descends (cluster_of s) line k r) t = subst (λ (x : ListRun). PumpsOn s line k limit x t) f p in (
+      let q : PumpsOn s line k limit (descends (cluster_of s) line k r) t = subst (λ (x : WorldRun). PumpsOn s line k limit x t) f p in (
         Falls limit r t (none_waits r k d there e) not_none q.0,
         (subst AreBytes all bytes, q.1),
       )

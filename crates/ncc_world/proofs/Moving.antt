@@ -10,7 +10,7 @@ use Rattle.ncc_apply.specs.Shelf.{Shown as Shelved, Stands as ShelfStands}
 use Rattle.ncc_world.specs.declared.setup.Setup.{Setup}
 use Rattle.ncc_world.specs.declared.seen.MemberSeen.{MemberSeen}
 use Rattle.ncc_world.specs.Setting.{Lists, list_at, extended, lagging}
-use Rattle.ncc_world.specs.World.{IsShelf, AreMembers, KeptMembers}
+use Rattle.ncc_world.specs.World.{IsShelf, AreOneList, KeptMembers}
 use Rattle.ncc_world.proofs.Listing.{shelf_at, shelf_set, shelf_count, shelves_grown, seen_set, seen_at}
 
 abbrev pub kept : List Item → List Shelved → List MemberSeen → KeptMembers
@@ -18,9 +18,9 @@ kept items shelves seen = record { items = items; shelves = shelves; seen = seen
 
 -- one member has applied this instead
 pub replaced : (s : Setup) (items : List Item) (shelves : List Shelved) (seen : List MemberSeen) (lists : Lists) (i : ℕ) (y : Shelved)
-    (m : MemberSeen) (list : List Item) → AreMembers s (kept items shelves seen) lists → i < length lists → IsShelf items y list
+    (m : MemberSeen) (list : List Item) → AreOneList s (kept items shelves seen) lists → i < length lists → IsShelf items y list
     → m ≡ get_or seen i m → list_at (slice_set lists i list) 1 ≡ items
-    → AreMembers s (kept items (slice_set shelves i y) (slice_set seen i (record m { at = length list }))) (slice_set lists i list)
+    → AreOneList s (kept items (slice_set shelves i y) (slice_set seen i (record m { at = length list }))) (slice_set lists i list)
 replaced s items shelves seen lists i y m list k l h e f = record {
   shelves = shelf_set items shelves lists i y list k.shelves h;
   first = f;
@@ -30,11 +30,11 @@ replaced s items shelves seen lists i y m list k l h e f = record {
 }
 
 pub appended_one : (s : Setup) (items : List Item) (shelves : List Shelved) (seen : List MemberSeen) (lists : Lists) (item : Item)
-    (x y : Shelved) (m n : MemberSeen) → AreMembers s (kept items shelves seen) lists
+    (x y : Shelved) (m n : MemberSeen) → AreOneList s (kept items shelves seen) lists
     → x ≡ get_or shelves 0 x → m ≡ get_or seen 0 m
     → ((h : List Item) → ShelfStands x h → ShelfStands y (h ++ (item ∷ [])))
     → ((h : List Item) → ShelfStands x h → n ≡ record m { at = length h + 1 })
-    → AreMembers s (kept (items ++ (item ∷ [])) (slice_set shelves 0 y) (slice_set seen 0 n)) (slice_set lists 0 (list_at lists 1 ++ (item ∷ [])))
+    → AreOneList s (kept (items ++ (item ∷ [])) (slice_set shelves 0 y) (slice_set seen 0 n)) (slice_set lists 0 (list_at lists 1 ++ (item ∷ [])))
 appended_one s items shelves seen lists item x y m n k e f g h =
     let some : 0 < length shelves = omega (arith, shelf_count items shelves lists k.shelves, k.some) in
     let old : IsShelf items x (list_at lists 1) = shelf_at items shelves lists 0 x k.shelves some e in
@@ -88,12 +88,12 @@ length_take (suc n) [] h = absurd (omega (arith, h))
 length_take (suc n) (x ∷ l) h = ap suc (length_take n l (omega (arith, h)))
 
 pub lagged : (s : Setup) (items : List Item) (shelves : List Shelved) (seen : List MemberSeen) (lists : Lists) (i member count from goal : ℕ)
-    (x y : Shelved) (m n : MemberSeen) → AreMembers s (kept items shelves seen) lists → 1 < member → i ≡ member - 1 → i < length shelves
+    (x y : Shelved) (m n : MemberSeen) → AreOneList s (kept items shelves seen) lists → 1 < member → i ≡ member - 1 → i < length shelves
     → x ≡ get_or shelves i x → m ≡ get_or seen i m
     → from ≡ length (get_or lists i []) → goal ≡ min (from + count) (length items)
     → (ShelfStands x (take from items) → ShelfStands y (take goal items))
     → (ShelfStands x (take from items) → m.at ≡ from → n ≡ record m { at = goal })
-    → AreMembers s (kept items (slice_set shelves i y) (slice_set seen i n)) (lagging lists member count)
+    → AreOneList s (kept items (slice_set shelves i y) (slice_set seen i n)) (lagging lists member count)
 lagged s items shelves seen lists i member count from goal x y m n k far is within e f at goal_is g h =
     let there : i < length lists = omega (arith, shelf_count items shelves lists k.shelves, within) in
     let own : List Item = get_or lists i [] in
@@ -116,9 +116,9 @@ lagged s items shelves seen lists i member count from goal x y m n k far is with
     let shows : n ≡ record m { at = length list } = h stood showed ∙ ap (λ j. record m { at = j }) long in
     let other : list_at (slice_set lists i list) 1 ≡ items =
     get_or-set_other lists i 0 list [] (λ z. absurd (omega (arith, z, is, far))) ∙ k.first in
-    let all : AreMembers s (kept items (slice_set shelves i y) (slice_set seen i n)) (slice_set lists i list) =
-    subst (λ (z : MemberSeen). AreMembers s (kept items (slice_set shelves i y) (slice_set seen i z)) (slice_set lists i list)) (sym shows)
+    let all : AreOneList s (kept items (slice_set shelves i y) (slice_set seen i n)) (slice_set lists i list) =
+    subst (λ (z : MemberSeen). AreOneList s (kept items (slice_set shelves i y) (slice_set seen i z)) (slice_set lists i list)) (sym shows)
     (replaced s items shelves seen lists i y m list k there new f other) in
-    subst (λ (l : Lists). AreMembers s (kept items (slice_set shelves i y) (slice_set seen i n)) l)
+    subst (λ (l : Lists). AreOneList s (kept items (slice_set shelves i y) (slice_set seen i n)) l)
     (ap (λ (l : List Item). slice_set lists i (extended own l count)) (sym k.first)
     ∙ ap (λ j. slice_set lists j (extended (get_or lists j []) (list_at lists 1) count)) is) all

@@ -7,7 +7,8 @@ use Rattle.ncc_world.specs.declared.setup.Setup.{Setup}
 use Rattle.ncc_world.specs.declared.error.WorldError.{WorldError}
 use Rattle.ncc_world.specs.declared.seen.ConnSeen.{ConnSeen}
 use Rattle.ncc_world.specs.declared.served.Served.{Served}
-use Rattle.ncc_world.specs.Happening.{ListRun, is_printed, is_linked, is_open_made, unless}
+use Rattle.ncc_world.specs.Happening.{WorldRun, is_printed, is_linked, is_open_made}
+use Rattle.ncc_world.specs.Rafts.{unless}
 use Rattle.ncc_world.specs.World.{AreClients, KeptRun, RunsAs}
 
 -- what the connections show of that
@@ -38,7 +39,7 @@ guarded conn b h = elim (leb_tells 1 conn) [
 ]
 
 -- no number, or one past the last
-pub made_not : (s : Setup) (w : KeptRun) (r : ListRun) (conn : ℕ) → RunsAs s w r
+pub made_not : (s : Setup) (w : KeptRun) (r : WorldRun) (conn : ℕ) → RunsAs s w r
     → (conn ≡ 0) ⊎ (length w.clients.seen ≤ conn - 1) → false ≡ is_open_made r conn
 made_not s w r zero k h = refl
 made_not s w r (suc n) k (inl e) = absurd (omega (arith, e))
@@ -48,7 +49,7 @@ made_not s w r (suc n) k (inr l) =
     ∙ guarded (suc n) (is_printed (slice_get r.clients (suc n - 1)) && apart) (omega arith)
 
 -- one of these, by what it shows and whether a session made it
-pub made_there : (s : Setup) (w : KeptRun) (r : ListRun) (conn : ℕ) (d : ConnSeen) (printed linked : Bool) → RunsAs s w r → 0 < conn
+pub made_there : (s : Setup) (w : KeptRun) (r : WorldRun) (conn : ℕ) (d : ConnSeen) (printed linked : Bool) → RunsAs s w r → 0 < conn
     → conn - 1 < length w.clients.seen → (get_or w.clients.seen (conn - 1) d).printed ≡ printed → linked ≡ is_linked r conn
     → (printed && not linked) ≡ is_open_made r conn
 made_there s w r conn d printed linked k h l e f =
@@ -72,7 +73,7 @@ printed_within (c ∷ cs) zero e = omega arith
 printed_within (c ∷ cs) (suc i) e = omega (arith, printed_within cs i e)
 
 -- a connection that an open made is there
-pub made_within : (r : ListRun) (conn : ℕ) → is_open_made r conn ≡ true → conn - 1 < length r.clients
+pub made_within : (r : WorldRun) (conn : ℕ) → is_open_made r conn ≡ true → conn - 1 < length r.clients
 made_within r conn e =
     let printed : Bool = is_printed (slice_get r.clients (conn - 1)) in
     let apart : Bool = not (is_linked r conn) in

@@ -1,8 +1,7 @@
 -- A proposal, and what it does to a run.
-use Rattle.std.proofs.Common.{◌≡◌, ℕ, ◌+◌, ◌-◌, ◌<◌, List, [], ◌∷◌, ◌++◌, length, get_or, Option, Some, Bool, true, false, cond, map}
+use Rattle.std.proofs.Common.{◌≡◌, ℕ, ◌-◌, ◌<◌, List, [], length, get_or, Option, Some, Bool, true, false, map}
 use Rattle.std.proofs.Common.{refl, ap, sym, ◌∙◌, subst, arith, IsTrue}
-use Rattle.std.specs.Prelude.{slice_get, slice_set, nat_le, ◌==◌}
-use Rattle.std.proofs.lemmas.List.{length-set}
+use Rattle.std.specs.Prelude.{slice_get, slice_set}
 use Rattle.std.proofs.lemmas.Option.{get_or_from_slice_get}
 use Rattle.ncc_store.specs.Exec.{call_of}
 use Rattle.ncc_tx.specs.declared.entry.Entry.{Entry}
@@ -13,7 +12,6 @@ use Rattle.ncc_session.specs.Core.{leave_of}
 use Rattle.ncc_session.specs.Question.{fits, some_writes}
 use Rattle.ncc_session.specs.Talk.{asked, fits_at}
 use Rattle.ncc_clients.specs.Members.{Proposed, elsewhere, full, placed, longest}
-use Rattle.ncc_clients.specs.Four.{Begins}
 use Rattle.ncc_clients.specs.declared.told.Told.{Told}
 use Rattle.ncc_clients.specs.Run.{Client, Placing, proposes, reply, question_of, answers, leaves, deadline_of, accepted, with_placing}
 use Rattle.ncc_world.specs.declared.setup.Setup.{Setup}
@@ -21,28 +19,27 @@ use Rattle.ncc_world.specs.declared.seen.ConnSeen.{ConnSeen}
 use Rattle.ncc_world.specs.declared.earlier.Earlier.{Earlier}
 use Rattle.ncc_world.specs.declared.served.ProposedAt.{ProposedAt}
 use Rattle.ncc_world.specs.declared.served.Served.{Served}
-use Rattle.ncc_world.specs.declared.members.Proposal.{Proposal}
-use Rattle.ncc_world.specs.declared.members.Proposal.TheVariants as proposal
+use Rattle.ncc_world.specs.declared.proposal.Proposal.{Proposal}
+use Rattle.ncc_world.specs.declared.proposal.Proposal.TheVariants as proposal
 use Rattle.ncc_world.specs.declared.clients.Clients.{Clients}
 use Rattle.ncc_world.specs.declared.running.Running.{Running}
-use Rattle.ncc_world.specs.Setting.{Lists, cluster_of, list_at, item_of, appended}
+use Rattle.ncc_world.specs.Setting.{Seats, lists_of, cluster_of}
 use Rattle.ncc_world.specs.Earlier.{AllRemember}
-use Rattle.ncc_world.specs.Happening.{ListRun}
+use Rattle.ncc_world.specs.Happening.{WorldRun}
 use Rattle.ncc_world.specs.World.{KeptMembers, KeptClients, KeptRun, AreMembers, AreServed, RunsAs, IsClient}
-use Rattle.ncc_world.specs.Parts.{IsProposed, members_in, clients_in, run_in}
-use Rattle.ncc_world.proofs.Begun.{begins_more, grows_set}
+use Rattle.ncc_world.specs.Parts.{BecomeMembers, IsProposed, members_in, clients_in, run_in}
 use Rattle.ncc_world.proofs.Keeping.{get_there, client_at}
 use Rattle.ncc_world.proofs.Turning.{counted, reply_some}
 use Rattle.ncc_world.proofs.Fitting.{fits_here}
 
 -- the connection at an index, by what is kept of it
-pub record Sits (s : Setup) (r : ListRun) (index : ℕ) (v : Served) : Type 0 where
+pub record Sits (s : Setup) (r : WorldRun) (index : ℕ) (v : Served) : Type 0 where
   pub client : Client
   pub seen : ConnSeen
   pub there : slice_get r.clients index ≡ Some client
   pub is : IsClient s v seen client
 
-pub sits : (s : Setup) (w : KeptRun) (r : ListRun) (index : ℕ) (v : Served) → RunsAs s w r → index < length w.clients.table
+pub sits : (s : Setup) (w : KeptRun) (r : WorldRun) (index : ℕ) (v : Served) → RunsAs s w r → index < length w.clients.table
     → slice_get w.clients.table index ≡ Some v → Sits s r index v
 sits s w r index v k h e =
     let n = counted s w r k in
@@ -58,42 +55,44 @@ sits s w r index v k h e =
 
 -- ---- the members are the same, or one entry longer
 
-pub record Refused (s : Setup) (lists : Lists) (X Y : Proposed Lists) (m : KeptMembers) : Type 0 where
-  pub members : AreMembers s m lists
+pub record Refused (s : Setup) (seats : Seats) (history : List Item) (X Y : Proposed Seats) (m : KeptMembers) : Type 0 where
+  pub members : AreMembers s m seats history
   pub becomes : X ≡ Y
 
-elsewhere_by : (s : Setup) (lists : Lists) (X : Proposed Lists) (m : KeptMembers) → IsProposed s lists X proposal.Elsewhere m
-    → Refused s lists X elsewhere m
-elsewhere_by s lists elsewhere m k = record { members = k.1; becomes = refl }
-elsewhere_by s lists (full n) m k = absurd (let z = k.0 in cc)
-elsewhere_by s lists (placed place term after) m k = absurd (let z = k.0 in cc)
+elsewhere_by : (s : Setup) (seats : Seats) (history : List Item) (X : Proposed Seats) (m : KeptMembers)
+    → IsProposed s seats history X proposal.Elsewhere m → Refused s seats history X elsewhere m
+elsewhere_by s seats history elsewhere m k = record { members = k.1; becomes = refl }
+elsewhere_by s seats history (full n) m k = absurd (let z = k.0 in cc)
+elsewhere_by s seats history (placed place term after) m k = absurd (let z = k.0 in cc)
 
-full_by : (s : Setup) (lists : Lists) (X : Proposed Lists) (m : KeptMembers) (entries : ℕ) → IsProposed s lists X (proposal.Full entries) m
-    → Refused s lists X (full entries) m
-full_by s lists elsewhere m entries k = absurd (let z = k.0 in cc)
-full_by s lists (full n) m entries k = record {
+full_by : (s : Setup) (seats : Seats) (history : List Item) (X : Proposed Seats) (m : KeptMembers) (entries : ℕ)
+    → IsProposed s seats history X (proposal.Full entries) m → Refused s seats history X (full entries) m
+full_by s seats history elsewhere m entries k = absurd (let z = k.0 in cc)
+full_by s seats history (full n) m entries k = record {
   members = k.1;
   becomes = ap (λ j. full j) (let z = k.0 in let same : n ≡ entries = cc in same);
 }
-full_by s lists (placed place term after) m entries k = absurd (let z = k.0 in cc)
+full_by s seats history (placed place term after) m entries k = absurd (let z = k.0 in cc)
 
-pub was_elsewhere : (s : Setup) (lists : Lists) (X : Proposed Lists) (m : KeptMembers) (p : Proposal) → IsProposed s lists X p m
-    → p ≡ proposal.Elsewhere → Refused s lists X elsewhere m
-was_elsewhere s lists X m p k e = elsewhere_by s lists X m (subst (λ (q : Proposal). IsProposed s lists X q m) e k)
+pub was_elsewhere : (s : Setup) (seats : Seats) (history : List Item) (X : Proposed Seats) (m : KeptMembers) (p : Proposal)
+    → IsProposed s seats history X p m → p ≡ proposal.Elsewhere → Refused s seats history X elsewhere m
+was_elsewhere s seats history X m p k e =
+    elsewhere_by s seats history X m (subst (λ (q : Proposal). IsProposed s seats history X q m) e k)
 
-pub was_full : (s : Setup) (lists : Lists) (X : Proposed Lists) (m : KeptMembers) (p : Proposal) (entries : ℕ) → IsProposed s lists X p m
-    → p ≡ proposal.Full entries → Refused s lists X (full entries) m
-was_full s lists X m p entries k e = full_by s lists X m entries (subst (λ (q : Proposal). IsProposed s lists X q m) e k)
+pub was_full : (s : Setup) (seats : Seats) (history : List Item) (X : Proposed Seats) (m : KeptMembers) (p : Proposal) (entries : ℕ)
+    → IsProposed s seats history X p m → p ≡ proposal.Full entries → Refused s seats history X (full entries) m
+was_full s seats history X m p entries k e =
+    full_by s seats history X m entries (subst (λ (q : Proposal). IsProposed s seats history X q m) e k)
 
--- nothing changed but the members, and these stand for the same lists
-pub kept_by : (s : Setup) (r : ListRun) (old new : Running) → RunsAs s (run_in old) r → AreMembers s (members_in new.members) r.members
+-- nothing changed but what the members keep, and that stands for the same members and history
+pub kept_by : (s : Setup) (r : WorldRun) (old new : Running) → RunsAs s (run_in old) r
+    → AreMembers s (members_in new.members) r.members r.history
     → new.clock ≡ old.clock → new.clients ≡ old.clients → new.told ≡ old.told → new.earlier.items ≡ old.earlier.items
     → RunsAs s (run_in new) r
 kept_by s r old new k m clock clients told earlier = record {
   now = clock ∙ k.now;
-  history = sym m.first ∙ k.members.first ∙ k.history;
   members = m;
-  clients = subst (λ (x : Clients). AreServed s (length r.members) (clients_in x) r.clients) (sym clients) k.clients;
+  clients = subst (λ (x : Clients). AreServed s (length (lists_of r.members)) (clients_in x) r.clients) (sym clients) k.clients;
   told = told ∙ k.told;
   earlier = subst (λ (es : List (Option Earlier)). AllRemember s es r) (sym earlier) k.earlier;
 }
@@ -104,63 +103,54 @@ pub writes_by : (list : List Item) (now deadline : ℕ) (b : Bool) (placing : Op
 writes_by list now deadline true placing e = refl
 writes_by list now deadline false placing e = absurd (cc)
 
-refusal_fits : (s : Setup) (r : ListRun) (c : Client) (entry : Entry) → answers (cluster_of s) r c (leave_of entry) ≡ proposes
+refusal_fits : (s : Setup) (r : WorldRun) (c : Client) (entry : Entry) → answers (cluster_of s) r c (leave_of entry) ≡ proposes
     → IsTrue (fits (leave_of entry) Elsewhere) × ((entries : ℕ) → IsTrue (fits (leave_of entry) (Full entries)))
 refusal_fits s r c e.Noop h = absurd (cc)
 refusal_fits s r c (e.Tx steps told) h =
-    let w = writes_by (get_or r.members (c.member - 1) []) r.now (deadline_of (cluster_of s) c) (some_writes (map call_of steps)) c.placing h in
+    let w = writes_by (get_or (lists_of r.members) (c.member - 1) []) r.now (deadline_of (cluster_of s) c) (some_writes (map call_of steps)) c.placing h in
     (w, λ entries. w)
 
-pub elsewhere_fits : (s : Setup) (r : ListRun) (v : Served) (seen : ConnSeen) (c : Client) (entry : Entry) → IsClient s v seen c
+pub elsewhere_fits : (s : Setup) (r : WorldRun) (v : Served) (seen : ConnSeen) (c : Client) (entry : Entry) → IsClient s v seen c
     → question_of (cluster_of s) c ≡ Some (leave_of entry) → reply (cluster_of s) r c ≡ proposes → IsTrue (fits_at (asked v.conn) Elsewhere)
 elsewhere_fits s r v seen c entry k e h =
     fits_here s v seen c (leave_of entry) Elsewhere k e (refusal_fits s r c entry (reply_some s r c (leave_of entry) e ∙ h)).0
 
-pub full_fits : (s : Setup) (r : ListRun) (v : Served) (seen : ConnSeen) (c : Client) (entry : Entry) (entries : ℕ) → IsClient s v seen c
+pub full_fits : (s : Setup) (r : WorldRun) (v : Served) (seen : ConnSeen) (c : Client) (entry : Entry) (entries : ℕ) → IsClient s v seen c
     → question_of (cluster_of s) c ≡ Some (leave_of entry) → reply (cluster_of s) r c ≡ proposes → IsTrue (fits_at (asked v.conn) (Full entries))
 full_fits s r v seen c entry entries k e h =
     fits_here s v seen c (leave_of entry) (Full entries) k e ((refusal_fits s r c entry (reply_some s r c (leave_of entry) e ∙ h)).1 entries)
 
 -- ---- an entry that was placed
 
-pub record Accepted (s : Setup) (lists : Lists) (X : Proposed Lists) (p : ProposedAt) (m : KeptMembers) : Type 0 where
-  pub after : Lists
+pub record Accepted (s : Setup) (seats : Seats) (history : List Item) (X : Proposed Seats) (p : ProposedAt) (m : KeptMembers) : Type 0 where
+  pub after : Seats
   pub becomes : X ≡ placed p.place p.term after
-  pub members : AreMembers s m after
-  pub count : length after ≡ length lists
   pub some : 0 < p.place
-  pub grows : (member : ℕ) → Begins (list_at lists member) (list_at after member)
+  pub become : BecomeMembers s m seats history after
 
-placed_by : (s : Setup) (lists : Lists) (entry : Entry) (p : ProposedAt) (m : KeptMembers) (b d : Bool)
-    → IsProposed s lists (cond b (cond d (full (length (list_at lists 1))) (placed (length (list_at lists 1) + 1) 1 (appended lists entry))) elsewhere)
-    (proposal.Placed p) m
-    → Accepted s lists (cond b (cond d (full (length (list_at lists 1))) (placed (length (list_at lists 1) + 1) 1 (appended lists entry))) elsewhere) p m
-placed_by s lists entry p m false d k = absurd (let z = k.0 in cc)
-placed_by s lists entry p m true true k = absurd (let z = k.0 in cc)
-placed_by s lists entry p m true false k =
+placed_by : (s : Setup) (seats : Seats) (history : List Item) (X : Proposed Seats) (p : ProposedAt) (m : KeptMembers)
+    → IsProposed s seats history X (proposal.Placed p) m → Accepted s seats history X p m
+placed_by s seats history elsewhere p m k = absurd (let z = k.0 in cc)
+placed_by s seats history (full n) p m k = absurd (let z = k.0 in cc)
+placed_by s seats history (placed place term after) p m k =
     let z = k.0 in
-    let same : p ≡ record { place = length (list_at lists 1) + 1; term = 1 } = cc in
+    let same : p ≡ record { place = place; term = term } = cc in
     record {
-      after = appended lists entry;
-      becomes = ap (λ (q : ProposedAt). placed q.place q.term (appended lists entry)) (sym same);
-      members = k.1;
-      count = length-set lists 0 _;
-      some = omega (arith, ap (λ (q : ProposedAt). q.place) same);
-      grows = λ member.
-          grows_set lists 0 (list_at lists 1 ++ (item_of entry ∷ [])) (begins_more (list_at lists 1) (item_of entry ∷ [])) (member - 1);
+      after = after;
+      becomes = ap (λ (q : ProposedAt). placed q.place q.term after) (sym same);
+      some = subst (λ (q : ProposedAt). 0 < q.place) (sym same) k.1;
+      become = k.2;
     }
 
-pub was_placed : (s : Setup) (lists : Lists) (member : ℕ) (entry : Entry) (m : KeptMembers) (p : Proposal) (place : ProposedAt)
-    → IsProposed s lists ((cluster_of s).propose lists member entry) p m → p ≡ proposal.Placed place
-    → Accepted s lists ((cluster_of s).propose lists member entry) place m
-was_placed s lists member entry m p place k e =
-    placed_by s lists entry place m (member == 1) (nat_le s.limit (length (list_at lists 1)))
-    (subst (λ (q : Proposal). IsProposed s lists ((cluster_of s).propose lists member entry) q m) e k)
+pub was_placed : (s : Setup) (seats : Seats) (history : List Item) (X : Proposed Seats) (m : KeptMembers) (p : Proposal) (place : ProposedAt)
+    → IsProposed s seats history X p m → p ≡ proposal.Placed place → Accepted s seats history X place m
+was_placed s seats history X m p place k e =
+    placed_by s seats history X place m (subst (λ (q : Proposal). IsProposed s seats history X q m) e k)
 
-pub accepted_as : (s : Setup) (r : ListRun) (i : ℕ) (d : Client) (place term : ℕ) (after : Lists) (now : ℕ) (m : KeptMembers) (k : KeptClients)
-    (told : List Told) (es : List (Option Earlier)) → now ≡ r.now → m.items ≡ longest r.history after → AreMembers s m after
-    → AreServed s (length after) k (slice_set r.clients i (with_placing r.now d place term)) → told ≡ r.told
+pub accepted_as : (s : Setup) (r : WorldRun) (i : ℕ) (d : Client) (place term : ℕ) (after : Seats) (now : ℕ) (m : KeptMembers) (k : KeptClients)
+    (told : List Told) (es : List (Option Earlier)) → now ≡ r.now → AreMembers s m after (longest r.history (lists_of after))
+    → AreServed s (length (lists_of after)) k (slice_set r.clients i (with_placing r.now d place term)) → told ≡ r.told
     → AllRemember s es (accepted (cluster_of s) r i d place term after)
     → RunsAs s (record { now = now; members = m; clients = k; told = told; earlier = es }) (accepted (cluster_of s) r i d place term after)
-accepted_as s r i d place term after now m k told es e f g h j l =
-    record { now = e; history = f; members = g; clients = h; told = j; earlier = l }
+accepted_as s r i d place term after now m k told es e g h j l =
+    record { now = e; members = g; clients = h; told = j; earlier = l }

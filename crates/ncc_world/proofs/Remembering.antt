@@ -26,8 +26,8 @@ use Rattle.ncc_world.specs.declared.setup.Setup.{Setup}
 use Rattle.ncc_world.specs.declared.earlier.Earlier.{Earlier}
 use Rattle.ncc_world.specs.declared.seen.ConnSeen.{ConnSeen}
 use Rattle.ncc_world.specs.declared.served.Served.{Served}
-use Rattle.ncc_world.specs.Setting.{Lists, cluster_of, list_at}
-use Rattle.ncc_world.specs.Happening.{ListRun, start_of}
+use Rattle.ncc_world.specs.Setting.{cluster_of, list_at, Seats, lists_of}
+use Rattle.ncc_world.specs.Happening.{WorldRun, start_of}
 use Rattle.ncc_world.specs.Earlier.{Left, open_behind, InTurn, IsOfOpen, IsKeptOf, Remembers, AllRemember}
 use Rattle.ncc_world.specs.Earlier.{IsFrom, LeftBy, LeftFor}
 use Rattle.ncc_world.specs.World.{IsClient, asked_by}
@@ -198,7 +198,7 @@ grown_remembers s old new c o b k = record {
 pub none_remember : (s : Setup) → AllRemember s [] (start_of s)
 none_remember s = record { count = refl; each = λ i c o e f. absurd (cc) }
 
-pub one_more : (s : Setup) (es : List (Option Earlier)) (r : ListRun) (member : ℕ) (printed : Bool) → AllRemember s es r
+pub one_more : (s : Setup) (es : List (Option Earlier)) (r : WorldRun) (member : ℕ) (printed : Bool) → AllRemember s es r
     → AllRemember s (es ++ (None ∷ [])) (opened r member printed)
 one_more s es r member printed k = record {
   count = length-append es (None ∷ []) ∙ ap (λ n. n + 1) k.count ∙ sym (length-append r.clients (new ∷ []));
@@ -217,50 +217,50 @@ one_more s es r member printed k = record {
   }
 
   go : (i : ℕ) (c : Client) (o : Option Earlier) → (slice_get r.clients i ≡ Some c) ⊎ ((i ≡ length r.clients) × (new ≡ c))
-      → (slice_get es i ≡ Some o) ⊎ ((i ≡ length es) × (None ≡ o)) → Remembers s (list_at r.members c.member) c o
+      → (slice_get es i ≡ Some o) ⊎ ((i ≡ length es) × (None ≡ o)) → Remembers s (list_at (lists_of r.members) c.member) c o
   go i c o (inl e) (inl f) = k.each i c o e f
   go i c o (inl e) (inr f) = absurd (omega (arith, get_within r.clients i c e, f.0, k.count))
   go i c o (inr e) (inl f) = absurd (omega (arith, get_within es i o f, e.0, k.count))
   go i c o (inr e) (inr f) =
-      subst (λ (x : Client). Remembers s (list_at r.members x.member) x o) e.1
-      (subst (Remembers s (list_at r.members new.member) new) f.1 (fresh_remembers s (list_at r.members new.member) new refl refl))
+      subst (λ (x : Client). Remembers s (list_at (lists_of r.members) x.member) x o) e.1
+      (subst (Remembers s (list_at (lists_of r.members) new.member) new) f.1 (fresh_remembers s (list_at (lists_of r.members) new.member) new refl refl))
 
 -- one connection changes, and what is kept stays
-pub one_changes : (s : Setup) (es : List (Option Earlier)) (r : ListRun) (i : ℕ) (c d : Client) → AllRemember s es r
+pub one_changes : (s : Setup) (es : List (Option Earlier)) (r : WorldRun) (i : ℕ) (c d : Client) → AllRemember s es r
     → slice_get r.clients i ≡ Some c
-    → ((o : Option Earlier) → Remembers s (list_at r.members c.member) c o → Remembers s (list_at r.members d.member) d o)
+    → ((o : Option Earlier) → Remembers s (list_at (lists_of r.members) c.member) c o → Remembers s (list_at (lists_of r.members) d.member) d o)
     → AllRemember s es (record r { clients = slice_set r.clients i d })
 one_changes s es r i c d k there h = record {
   count = k.count ∙ sym (set_length r.clients i d);
   each = λ j x o e f. go j x o (get_set r.clients i d j x e) f;
 } where
   go : (j : ℕ) (x : Client) (o : Option Earlier) → ((j ≡ i) × (d ≡ x)) ⊎ ((j ≢ i) × (slice_get r.clients j ≡ Some x))
-      → slice_get es j ≡ Some o → Remembers s (list_at r.members x.member) x o
+      → slice_get es j ≡ Some o → Remembers s (list_at (lists_of r.members) x.member) x o
   go j x o (inl e) f =
       let at : slice_get es i ≡ Some o = ap (λ n. slice_get es n) (sym e.0) ∙ f in
-      subst (λ (y : Client). Remembers s (list_at r.members y.member) y o) e.1 (h o (k.each i c o there at))
+      subst (λ (y : Client). Remembers s (list_at (lists_of r.members) y.member) y o) e.1 (h o (k.each i c o there at))
   go j x o (inr e) f = k.each j x o e.1 f
 
 -- nothing is kept of one connection any more
-pub one_forgotten : (s : Setup) (es : List (Option Earlier)) (r : ListRun) (i : ℕ) → AllRemember s es r → i < length es
+pub one_forgotten : (s : Setup) (es : List (Option Earlier)) (r : WorldRun) (i : ℕ) → AllRemember s es r → i < length es
     → AllRemember s (slice_set es i None) r
 one_forgotten s es r i k within = record {
   count = set_length es i None ∙ k.count;
   each = λ j x y e f. go j x y e (get_set es i None j y f);
 } where
   go : (j : ℕ) (x : Client) (y : Option Earlier) → slice_get r.clients j ≡ Some x
-      → ((j ≡ i) × (None ≡ y)) ⊎ ((j ≢ i) × (slice_get es j ≡ Some y)) → Remembers s (list_at r.members x.member) x y
+      → ((j ≡ i) × (None ≡ y)) ⊎ ((j ≢ i) × (slice_get es j ≡ Some y)) → Remembers s (list_at (lists_of r.members) x.member) x y
   go j x y e (inl f) =
       let old = get_there es i within in
       let at : slice_get es j ≡ Some old.0 = ap (λ n. slice_get es n) f.0 ∙ old.1 in
-      let was : Remembers s (list_at r.members x.member) x old.0 = k.each j x old.0 e at in
-      subst (Remembers s (list_at r.members x.member) x) f.1 (record { in_turn = was.in_turn; kept = tt })
+      let was : Remembers s (list_at (lists_of r.members) x.member) x old.0 = k.each j x old.0 e at in
+      subst (Remembers s (list_at (lists_of r.members) x.member) x) f.1 (record { in_turn = was.in_turn; kept = tt })
   go j x y e (inr f) = k.each j x y e f.1
 
 -- one connection is told a fact, and this is kept of it now
-pub one_told : (s : Setup) (es : List (Option Earlier)) (line : ℕ) (r : ListRun) (i : ℕ) (c : Client) (fact : Fact) (o : Option Earlier)
+pub one_told : (s : Setup) (es : List (Option Earlier)) (line : ℕ) (r : WorldRun) (i : ℕ) (c : Client) (fact : Fact) (o : Option Earlier)
     → AllRemember s es r → slice_get r.clients i ≡ Some c
-    → Remembers s (list_at r.members c.member) (with_fact r.now c fact) o
+    → Remembers s (list_at (lists_of r.members) c.member) (with_fact r.now c fact) o
     → AllRemember s (slice_set es i o) (told_to line r i c fact)
 one_told s es line r i c fact o k there new = record {
   count = set_length es i o ∙ k.count ∙ sym (set_length r.clients i (with_fact r.now c fact));
@@ -268,33 +268,33 @@ one_told s es line r i c fact o k there new = record {
 } where
   go : (j : ℕ) (x : Client) (y : Option Earlier)
       → ((j ≡ i) × (with_fact r.now c fact ≡ x)) ⊎ ((j ≢ i) × (slice_get r.clients j ≡ Some x))
-      → ((j ≡ i) × (o ≡ y)) ⊎ ((j ≢ i) × (slice_get es j ≡ Some y)) → Remembers s (list_at r.members x.member) x y
+      → ((j ≡ i) × (o ≡ y)) ⊎ ((j ≢ i) × (slice_get es j ≡ Some y)) → Remembers s (list_at (lists_of r.members) x.member) x y
   go j x y (inl e) (inl f) =
-      subst (λ (z : Client). Remembers s (list_at r.members z.member) z y) e.1
-      (subst (Remembers s (list_at r.members c.member) (with_fact r.now c fact)) f.1 new)
+      subst (λ (z : Client). Remembers s (list_at (lists_of r.members) z.member) z y) e.1
+      (subst (Remembers s (list_at (lists_of r.members) c.member) (with_fact r.now c fact)) f.1 new)
   go j x y (inl e) (inr f) = absurd (f.0 e.0)
   go j x y (inr e) (inl f) = absurd (e.0 f.0)
   go j x y (inr e) (inr f) = k.each j x y e.1 f.1
 
 -- the members apply more
-pub all_grown : (s : Setup) (es : List (Option Earlier)) (r : ListRun) (members : Lists) → AllRemember s es r
-    → ((member : ℕ) → Begins (list_at r.members member) (list_at members member))
+pub all_grown : (s : Setup) (es : List (Option Earlier)) (r : WorldRun) (members : Seats) → AllRemember s es r
+    → ((member : ℕ) → Begins (list_at (lists_of r.members) member) (list_at (lists_of members) member))
     → AllRemember s es (moved (cluster_of s) r members)
 all_grown s es r members k h = record {
   count = k.count;
-  each = λ i c o e f. grown_remembers s (list_at r.members c.member) (list_at members c.member) c o (h c.member) (k.each i c o e f);
+  each = λ i c o e f. grown_remembers s (list_at (lists_of r.members) c.member) (list_at (lists_of members) c.member) c o (h c.member) (k.each i c o e f);
 }
 
-pub all_accepted : (s : Setup) (es : List (Option Earlier)) (r : ListRun) (i : ℕ) (c : Client) (place term : ℕ) (members : Lists)
+pub all_accepted : (s : Setup) (es : List (Option Earlier)) (r : WorldRun) (i : ℕ) (c : Client) (place term : ℕ) (members : Seats)
     → AllRemember s es r → slice_get r.clients i ≡ Some c
-    → ((member : ℕ) → Begins (list_at r.members member) (list_at members member))
+    → ((member : ℕ) → Begins (list_at (lists_of r.members) member) (list_at (lists_of members) member))
     → AllRemember s es (accepted (cluster_of s) r i c place term members)
 all_accepted s es r i c place term members k there h =
     one_changes s es (moved (cluster_of s) r members) i c (with_placing r.now c place term) (all_grown s es r members k h) there
-    (λ o. placed_remembers s (list_at members c.member) r.now place term c o)
+    (λ o. placed_remembers s (list_at (lists_of members) c.member) r.now place term c o)
 
 -- one connection is told a fact that answers its question
-pub all_told : (s : Setup) (es : List (Option Earlier)) (line : ℕ) (r : ListRun) (i : ℕ) (c : Client) (v : Served) (seen : ConnSeen)
+pub all_told : (s : Setup) (es : List (Option Earlier)) (line : ℕ) (r : WorldRun) (i : ℕ) (c : Client) (v : Served) (seen : ConnSeen)
     (fact : Fact) (o : Option Earlier) → AllRemember s es r → i < length es → slice_get r.clients i ≡ Some c → IsClient s v seen c
     → IsTrue (fits_at (asked v.conn) fact) → LeftFor s r c fact o → AllRemember s (slice_set es i o) (told_to line r i c fact)
 all_told s es line r i c v seen fact o k within there is fit left =
@@ -302,7 +302,7 @@ all_told s es line r i c v seen fact o k within there is fit left =
       old : (e : Option Earlier) × (slice_get es i ≡ Some e)
       old = get_there es i within
 
-      was : Remembers s (list_at r.members c.member) c old.0
+      was : Remembers s (list_at (lists_of r.members) c.member) c old.0
       was = k.each i c old.0 there old.1
 
       -- the connection has the question of its session
@@ -311,12 +311,12 @@ all_told s es line r i c v seen fact o k within there is fit left =
           ∙ ap asked_at (sym (ap (λ (x : Standing). x.core) is.kept.talk.went))
 
       go : (q : Option Question) → asked_at (talk_of (cluster_of s) c).core ≡ q
-          → Remembers s (list_at r.members c.member) (with_fact r.now c fact) o
+          → Remembers s (list_at (lists_of r.members) c.member) (with_fact r.now c fact) o
       go None e =
           absurd (let no : IsTrue (fits_at None fact) = subst (λ (x : Option Question). IsTrue (fits_at x fact)) (asks ∙ e) fit in
           false≢true no)
       go (Some q) e =
-          told_remembers s (list_at r.members c.member) r.now c q fact o (ap (λ (x : Standing). x.facts) is.kept.talk.went) e
+          told_remembers s (list_at (lists_of r.members) c.member) r.now c q fact o (ap (λ (x : Standing). x.facts) is.kept.talk.went) e
           (subst (λ (x : Option Question). IsTrue (fits_at x fact)) (asks ∙ e) fit) was.in_turn (left q e)
 
 -- a connection that asks has the question of its session
@@ -332,11 +332,11 @@ asks_as_served s v seen c q is e = go v.closed refl where
   go false h = sym still ∙ (ap (λ (b : Bool). cond b None (asked v.conn)) (sym h) ∙ e)
 
 -- what is kept behind an answer to its question
-pub left_at : (s : Setup) (r : ListRun) (c : Client) (a : declared.Reply) (q : Question) → asked_at (talk_of (cluster_of s) c).core ≡ Some q
-    → LeftIn (list_at r.members c.member) q a → LeftAt s r c a
+pub left_at : (s : Setup) (r : WorldRun) (c : Client) (a : declared.Reply) (q : Question) → asked_at (talk_of (cluster_of s) c).core ≡ Some q
+    → LeftIn (list_at (lists_of r.members) c.member) q a → LeftAt s r c a
 left_at s r c answer.Waits q e k = tt
 left_at s r c answer.Proposes q e k = tt
 left_at s r c (answer.Tells fact o) q e k = λ other asks.
     let both : Some q ≡ Some other = sym e ∙ asks in
     let same : q ≡ other = cc in
-    subst (λ (x : Question). LeftBy (list_at r.members c.member) x fact o) same k
+    subst (λ (x : Question). LeftBy (list_at (lists_of r.members) c.member) x fact o) same k

@@ -16,7 +16,7 @@ use Rattle.ncc_world.specs.declared.setup.Setup.{Setup}
 use Rattle.ncc_world.specs.declared.seen.ConnSeen.{ConnSeen}
 use Rattle.ncc_world.specs.declared.served.Served.{Served}
 use Rattle.ncc_world.specs.Setting.{cluster_of}
-use Rattle.ncc_world.specs.Happening.{ListRun}
+use Rattle.ncc_world.specs.Happening.{WorldRun}
 use Rattle.ncc_world.specs.World.{AreClients, KeptRun, RunsAs}
 use Rattle.ncc_world.specs.declared.running.Running.{Running}
 use Rattle.ncc_world.specs.declared.drivers.Drivers.{Drivers}
@@ -34,24 +34,24 @@ if_ok_weaker (Err e) f h = h
 
 -- ---- up
 
-pub rises_nothing : (s : Setup) (r : ListRun) (o : Option Driver) → rises_some s r o [] ≡ r
+pub rises_nothing : (s : Setup) (r : WorldRun) (o : Option Driver) → rises_some s r o [] ≡ r
 rises_nothing s r None = refl
 rises_nothing s r (Some d) = go d.link where
   go : (o : Option Link) → elim o [ Some link ↦ feeds_some (cluster_of s) r (link.conn - 1) [] | None ↦ r ] ≡ r
   go None = refl
   go (Some link) = refl
 
-abbrev rises_by : Setup → ListRun → List ℕ → Option Link → ListRun
+abbrev rises_by : Setup → WorldRun → List ℕ → Option Link → WorldRun
 rises_by s r bytes o = elim o [ Some link ↦ feeds_some (cluster_of s) r (link.conn - 1) bytes | None ↦ r ]
 
-pub rises_unlinked : (s : Setup) (r : ListRun) (d : Driver) (bytes : List ℕ) → d.link ≡ None → rises_some s r (Some d) bytes ≡ r
+pub rises_unlinked : (s : Setup) (r : WorldRun) (d : Driver) (bytes : List ℕ) → d.link ≡ None → rises_some s r (Some d) bytes ≡ r
 rises_unlinked s r d bytes e = ap (rises_by s r bytes) e
 
-pub rises_linked : (s : Setup) (r : ListRun) (d : Driver) (bytes : List ℕ) (link : Link) → d.link ≡ Some link
+pub rises_linked : (s : Setup) (r : WorldRun) (d : Driver) (bytes : List ℕ) (link : Link) → d.link ≡ Some link
     → rises_some s r (Some d) bytes ≡ feeds_some (cluster_of s) r (link.conn - 1) bytes
 rises_linked s r d bytes link e = ap (rises_by s r bytes) e
 
-pub feeds_there : (s : Setup) (r : ListRun) (i : ℕ) (bytes : List ℕ) → (bytes ≡ [] → ⊥)
+pub feeds_there : (s : Setup) (r : WorldRun) (i : ℕ) (bytes : List ℕ) → (bytes ≡ [] → ⊥)
     → feeds (cluster_of s) r i bytes ≡ feeds_some (cluster_of s) r i bytes
 feeds_there s r i [] f = absurd (f refl)
 feeds_there s r i (b ∷ bs) f = refl
@@ -60,7 +60,7 @@ feeds_there s r i (b ∷ bs) f = refl
 abbrev pub taken_from : (List Parcel → Lifted) → Driver → Driver
 taken_from lift d = record d { link = with_up (lifted lift d.link).left d.link }
 
-lifts_as : (s : Setup) (r : ListRun) (k : ℕ) (d : Driver) (lift : List Parcel → Lifted) (bytes : List ℕ) → driver_at r k ≡ Some d
+lifts_as : (s : Setup) (r : WorldRun) (k : ℕ) (d : Driver) (lift : List Parcel → Lifted) (bytes : List ℕ) → driver_at r k ≡ Some d
     → bytes ≡ (lifted lift d.link).moved
     → rises_some s (with_driver r k (taken_from lift d)) (Some (taken_from lift d)) bytes ≡ lifts_by (cluster_of s) k r d d.link lift
 lifts_as s r k d lift bytes there e = go d.link refl where
@@ -88,7 +88,7 @@ lifts_as s r k d lift bytes there e = go d.link refl where
       ∙ ap (λ (o : Option Link). lifts_by (cluster_of s) k r d o lift) (sym f)
 
 -- What was taken from what waits, and then goes up, was lifted.
-pub lifts_so : (s : Setup) (r : ListRun) (k : ℕ) (d : Driver) (lift : List Parcel → Lifted) (bytes : List ℕ) → driver_at r k ≡ Some d
+pub lifts_so : (s : Setup) (r : WorldRun) (k : ℕ) (d : Driver) (lift : List Parcel → Lifted) (bytes : List ℕ) → driver_at r k ≡ Some d
     → bytes ≡ (lifted lift d.link).moved
     → rises_some s (with_driver r k (taken_from lift d)) (driver_at (with_driver r k (taken_from lift d)) k) bytes
     ≡ lifts (cluster_of s) k r (driver_at r k) lift
@@ -98,7 +98,7 @@ lifts_so s r k d lift bytes there e =
     ∙ lifts_as s r k d lift bytes there e ∙ ap (λ (o : Option Driver). lifts (cluster_of s) k r o lift) (sym there)
 
 -- What was taken from what waits is no longer there.
-pub mid_lifts : (s : Setup) (at : ℕ) (pending : List ℕ) (w : Running) (r : ListRun) (ds : Drivers) (d : Driver) (lift : List Parcel → Lifted)
+pub mid_lifts : (s : Setup) (at : ℕ) (pending : List ℕ) (w : Running) (r : WorldRun) (ds : Drivers) (d : Driver) (lift : List Parcel → Lifted)
     (bytes : List ℕ) → driver_at r at ≡ Some d
     → (AreAtWork s at [] pending (drivers_in w.drivers) r.now r.driving → (bytes ≡ (lifted lift d.link).moved)
     × AreAtWork s at [] pending (drivers_in ds) r.now (with_one at (taken_from lift d) r.driving))
@@ -123,7 +123,7 @@ out_at s (z ∷ zs) (y ∷ ys) (x ∷ xs) zero seen c h e f =
 out_at s (z ∷ zs) (y ∷ ys) (x ∷ xs) (suc i) seen c h e f = out_at s zs ys xs i seen c h.1 e f
 
 -- What a connection shows beyond what came down waits above.
-pub above_shown : (s : Setup) (w : KeptRun) (r : ListRun) (link : Link) (seen : ConnSeen) → RunsAs s w r
+pub above_shown : (s : Setup) (w : KeptRun) (r : WorldRun) (link : Link) (seen : ConnSeen) → RunsAs s w r
     → link.conn - 1 < length w.clients.seen → seen ≡ get_or w.clients.seen (link.conn - 1) seen
     → drop link.down seen.out ≡ waits_above (cluster_of s) r link
 above_shown s w r link seen k lt e =
@@ -134,7 +134,7 @@ above_shown s w r link seen k lt e =
     ∙ ap (held_back (cluster_of s) link) (sym there.1)
 
 -- the same of what was read on the way there
-pub rest_is : (s : Setup) (w : KeptRun) (r : ListRun) (link : Link) (seens : List ConnSeen) (seen : ConnSeen) (at conn down : ℕ)
+pub rest_is : (s : Setup) (w : KeptRun) (r : WorldRun) (link : Link) (seens : List ConnSeen) (seen : ConnSeen) (at conn down : ℕ)
     (out rest : List ℕ) → RunsAs s w r → seens ≡ w.clients.seen → at < length seens → at ≡ conn - 1 → conn ≡ link.conn → down ≡ link.down
     → out ≡ (get_or seens at seen).out → rest ≡ drop down out → seen ≡ get_or seens at seen → rest ≡ waits_above (cluster_of s) r link
 rest_is s w r link seens seen at conn down out rest k all lt at_is conn_is down_is out_is behind_is there =
@@ -147,25 +147,25 @@ rest_is s w r link seens seen at conn down out rest k all lt at_is conn_is down_
     ∙ above_shown s w r link seen k within here
 
 -- no such connection
-pub above_past : (s : Setup) (w : KeptRun) (r : ListRun) (link : Link) → RunsAs s w r → length w.clients.seen ≤ link.conn - 1
+pub above_past : (s : Setup) (w : KeptRun) (r : WorldRun) (link : Link) → RunsAs s w r → length w.clients.seen ≤ link.conn - 1
     → [] ≡ waits_above (cluster_of s) r link
 above_past s w r link k le =
     let n = counted s w r k in
     ap (held_back (cluster_of s) link) (sym (slice_get_past r.clients (link.conn - 1) (omega (arith, le, n.seen))))
 
-abbrev down_by : Setup → ListRun → Option Link → List ℕ
+abbrev down_by : Setup → WorldRun → Option Link → List ℕ
 down_by s r o = elim o [ Some link ↦ waits_above (cluster_of s) r link | None ↦ [] ]
 
-pub down_linked : (s : Setup) (r : ListRun) (k : ℕ) (d : Driver) (link : Link) → driver_at r k ≡ Some d → d.link ≡ Some link
+pub down_linked : (s : Setup) (r : WorldRun) (k : ℕ) (d : Driver) (link : Link) → driver_at r k ≡ Some d → d.link ≡ Some link
     → waits_above (cluster_of s) r link ≡ down_at (cluster_of s) r (driver_at r k)
 down_linked s r k d link there e = ap (down_by s r) (sym e) ∙ ap (down_at (cluster_of s) r) (sym there)
 
-pub down_unlinked : (s : Setup) (r : ListRun) (k : ℕ) (d : Driver) → driver_at r k ≡ Some d → d.link ≡ None
+pub down_unlinked : (s : Setup) (r : WorldRun) (k : ℕ) (d : Driver) → driver_at r k ≡ Some d → d.link ≡ None
     → [] ≡ down_at (cluster_of s) r (driver_at r k)
 down_unlinked s r k d there e = ap (down_by s r) (sym e) ∙ ap (down_at (cluster_of s) r) (sym there)
 
 -- Nothing comes down, and nothing happens.
-pub falls_nothing : (s : Setup) (line k : ℕ) (r : ListRun) (front : List ℕ → List ℕ)
+pub falls_nothing : (s : Setup) (line k : ℕ) (r : WorldRun) (front : List ℕ → List ℕ)
     → front (down_at (cluster_of s) r (driver_at r k)) ≡ [] → r ≡ falls (cluster_of s) line k r (driver_at r k) front
 falls_nothing s line k r front e = go (driver_at r k) e where
   one : (d : Driver) (o : Option Link) → front (down_by s r o) ≡ [] → r ≡ falls_by (cluster_of s) line k r d o front
@@ -177,7 +177,7 @@ falls_nothing s line k r front e = go (driver_at r k) e where
   go (Some d) f = one d d.link f
 
 -- the same bytes come down
-pub falls_same : (s : Setup) (line k : ℕ) (r : ListRun) (front other : List ℕ → List ℕ)
+pub falls_same : (s : Setup) (line k : ℕ) (r : WorldRun) (front other : List ℕ → List ℕ)
     → front (down_at (cluster_of s) r (driver_at r k)) ≡ other (down_at (cluster_of s) r (driver_at r k))
     → falls (cluster_of s) line k r (driver_at r k) front ≡ falls (cluster_of s) line k r (driver_at r k) other
 falls_same s line k r front other e = go (driver_at r k) e where
@@ -192,7 +192,7 @@ falls_same s line k r front other e = go (driver_at r k) e where
   go (Some d) f = one d d.link f
 
 -- Where bytes wait above there is a link.
-pub linked_by : (s : Setup) (r : ListRun) (k : ℕ) (d : Driver) (front : List ℕ → List ℕ) (bytes : List ℕ) → driver_at r k ≡ Some d
+pub linked_by : (s : Setup) (r : WorldRun) (k : ℕ) (d : Driver) (front : List ℕ → List ℕ) (bytes : List ℕ) → driver_at r k ≡ Some d
     → front [] ≡ [] → bytes ≡ front (down_at (cluster_of s) r (driver_at r k)) → (bytes ≡ [] → ⊥) → (link : Link) × (d.link ≡ Some link)
 linked_by s r k d front bytes there nil e some = go d.link refl where
   go : (o : Option Link) → d.link ≡ o → (link : Link) × (d.link ≡ Some link)
@@ -210,7 +210,7 @@ some_tells bytes f = elim (leb_tells 1 (length bytes)) [
 ]
 
 -- Some bytes come down, and the session is told them.
-pub falls_some : (s : Setup) (line k : ℕ) (r : ListRun) (d : Driver) (front : List ℕ → List ℕ) (bytes : List ℕ) (link : Link)
+pub falls_some : (s : Setup) (line k : ℕ) (r : WorldRun) (d : Driver) (front : List ℕ → List ℕ) (bytes : List ℕ) (link : Link)
     → driver_at r k ≡ Some d → d.link ≡ Some link → bytes ≡ front (down_at (cluster_of s) r (driver_at r k)) → (bytes ≡ [] → ⊥)
     → told_input (cluster_of s) line k (with_driver r k (record d { link = fallen (length bytes) d.link }))
     (record d { link = fallen (length bytes) d.link }) (i.Bytes bytes)
@@ -221,7 +221,7 @@ falls_some s line k r d front bytes link there e f some =
     ∙ ap (λ (x : List ℕ). comes_down (cluster_of s) line k r d link (front x)) (sym (down_linked s r k d link there e))
     ∙ ap (λ (o : Option Link). falls_by (cluster_of s) line k r d o front) (sym e)
     ∙ ap (λ (o : Option Driver). falls (cluster_of s) line k r o front) (sym there) where
-      after : Driver → ListRun
+      after : Driver → WorldRun
       after x = told_input (cluster_of s) line k (with_driver r k x) x (i.Bytes bytes)
 
       comes : (xs : List ℕ) → (xs ≡ [] → ⊥)

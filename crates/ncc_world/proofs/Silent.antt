@@ -1,5 +1,5 @@
 -- What sessions of drivers do tells nobody a fact, and is made of small things.
-use Rattle.std.proofs.Common.{◌≡◌, ℕ, suc, ◌-◌, Bool, true, false, List, [], ◌∷◌, length, Option, Some, None, refl, ◌∙◌}
+use Rattle.std.proofs.Common.{◌≡◌, ℕ, suc, ◌-◌, ◌≤◌, Bool, true, false, List, [], ◌∷◌, length, Option, Some, None, refl, ◌∙◌}
 use Rattle.std.specs.Prelude.{slice_get, if◌then◌else◌}
 use Rattle.ncc_driver.specs.declared.action.Action.{Action}
 use Rattle.ncc_driver.specs.declared.action.Action.TheVariants.{Connect, Send, Close, Sleep, Receive, Finish}
@@ -10,13 +10,15 @@ use Rattle.ncc_driver.specs.Session.{Begun}
 use Rattle.ncc_driver.specs.Work.{Job}
 use Rattle.ncc_clients.specs.Members.{Cluster}
 use Rattle.ncc_clients.specs.Links.{Link, Driver, Driving, Ended, Lifted, Parcel, bytes_in}
-use Rattle.ncc_clients.specs.Run.{Run, Client, opened, fed, closed_at}
+use Rattle.ncc_clients.specs.Run.{Run, Client, opened, fed, closed_at, moved}
 use Rattle.ncc_clients.specs.Moment.{Small, Opens, Feeds, Drives, Closes, Path, Here}
 use Rattle.ncc_clients.specs.Drives.{driver_at, with_driver, feeds, feeds_one, closes, closes_one, member_named, joins, joins_named}
 use Rattle.ncc_clients.specs.Drives.{parts, ends, does_by, does, does_all, more, knows, does_more, joined, last_of, follows_on, turns_to}
 use Rattle.ncc_clients.specs.Drives.{told_input, with_input, makes, begins_by, begins, feeds_some, goes_up, lifts_by, lifts, comes_down, waits_above}
 use Rattle.ncc_clients.specs.Drives.{falls_by, falls, cuts_by, cuts, is_due, woken, wakes_from, wakes_all}
-use Rattle.ncc_clients.specs.Drives.{rises, descends, lift_to, all_bytes}
+use Rattle.ncc_clients.specs.Drives.{rises, descends, lift_to, all_bytes, closes_all, hangs_on, loses_from, ends_at}
+use Rattle.ncc_clients.proofs.Named.{named_some}
+use Rattle.ncc_clients.proofs.Ending.{ends_are_courses, courses_are_paths}
 use Rattle.ncc_world.proofs.Settling.{path_of, path_through}
 
 module _ {S : Type 0} (C : Cluster S) where
@@ -60,11 +62,12 @@ module _ {S : Type 0} (C : Cluster S) where
     go None e = stays r
     go (Some c) e = one c e c.closed refl
 
-  joins_leads : (r : Run S) (k : ℕ) (d : Driver) (o : Option ℕ) → Leads r (joins_named k d r o)
-  joins_leads r k d None = stays r
-  joins_leads r k d (Some member) =
+  joins_leads : (r : Run S) (k : ℕ) (d : Driver) (o : Option ℕ) → ((member : ℕ) → o ≡ Some member → 1 ≤ member)
+      → Leads r (joins_named k d r o)
+  joins_leads r k d None some = stays r
+  joins_leads r k d (Some member) some =
       let s = opened r member true in
-      then_ r s (joins k d r member) (small r s (Opens r member true) refl) (drives s (joins k d r member).driving)
+      then_ r s (joins k d r member) (small r s (Opens r member true (some member refl)) refl) (drives s (joins k d r member).driving)
 
   parts_leads : (r : Run S) (k : ℕ) (d : Driver) (o : Option Link) → Leads r (parts C k d r o)
   parts_leads r k d None = stays r
@@ -77,7 +80,7 @@ module _ {S : Type 0} (C : Cluster S) where
 
   module _ (line k : ℕ) where
     action_leads : (r : Run S) (d : Driver) (a : Action) → Leads r (does_by C line k r d a)
-    action_leads r d (Connect address) = joins_leads r k d (member_named C address)
+    action_leads r d (Connect address) = joins_leads r k d (member_named C address) (named_some C address)
     action_leads r d (Send bytes) = sets r k _
     action_leads r d Close = parts_leads r k d d.link
     action_leads r d (Sleep until) = sets r k _
@@ -187,3 +190,26 @@ module _ {S : Type 0} (C : Cluster S) where
 
     pub descends_leads : (k : ℕ) (r : Run S) → Leads r (descends C line k r)
     descends_leads k r = falls_leads line k r all_bytes (driver_at r k)
+
+    loses_first : (k : ℕ) (lost : Option Link → Bool) (ds : List Driver) (r : Run S) (b : Bool)
+        → ((m : Run S) → Leads m (loses_from C line (suc k) lost ds m))
+        → Leads r (loses_from C line (suc k) lost ds (if b then cuts C line k r (driver_at r k) else r))
+    loses_first k lost ds r true h =
+        let m = cuts C line k r (driver_at r k) in
+        then_ r m (loses_from C line (suc k) lost ds m) (cuts_leads line k r (driver_at r k)) (h m)
+    loses_first k lost ds r false h = h r
+
+    losing : (k : ℕ) (lost : Option Link → Bool) (ds : List Driver) (r : Run S) → Leads r (loses_from C line k lost ds r)
+    unfolding loses_from
+    losing k lost [] r = stays r
+    losing k lost (d ∷ ds) r = loses_first k lost ds r (lost d.link) (λ m. losing (suc k) lost ds m)
+
+    -- a member ends and starts again: nobody is told a fact
+    pub ends_leads : (member : ℕ) (members : S) (r : Run S) → C.Restarts r.members member members → Leads r (ends_at C line member members r)
+    ends_leads member members r h =
+        let t = moved C (closes_all C member r) members in
+        let told = (losing 0 (hangs_on C member r) r.driving.drivers t).told in
+        record {
+          path = courses_are_paths C r (ends_at C line member members r) (ends_are_courses C line member members r h);
+          told = told;
+        }

@@ -21,8 +21,8 @@ use Rattle.ncc_clients.specs.Run.{Client, reply, proposes, question_of, answers,
 use Rattle.ncc_world.specs.declared.setup.Setup.{Setup}
 use Rattle.ncc_world.specs.declared.seen.ConnSeen.{ConnSeen}
 use Rattle.ncc_world.specs.declared.served.Served.{Served}
-use Rattle.ncc_world.specs.Setting.{cluster_of}
-use Rattle.ncc_world.specs.Happening.{ListRun}
+use Rattle.ncc_world.specs.Setting.{cluster_of, lists_of}
+use Rattle.ncc_world.specs.Happening.{WorldRun}
 use Rattle.ncc_world.specs.World.{IsClient, asked_by}
 use Rattle.ncc_world.specs.Spellable.{rows_fit}
 use Rattle.ncc_world.proofs.Keeping.{asked_is}
@@ -85,11 +85,11 @@ allowed_tx steps told h =
     joined (nat_eq (length (map call_of steps)) (length told)) (value_fits (entry_value (map call_of steps) told))
     (nat_le (length (short (entry_value (map call_of steps) told))) max_entry) h
 
-may_stand : (s : Setup) (r : ListRun) (c : Client) (entry : Entry) → MayAsk (leave_of entry)
+pub may_stand : (s : Setup) (r : WorldRun) (c : Client) (entry : Entry) → MayAsk (leave_of entry)
     → answers (cluster_of s) r c (leave_of entry) ≡ proposes → IsTrue (entry_allowed entry)
 may_stand s r c Noop m h = absurd m
 may_stand s r c (Tx steps told) m h =
-    allowed_tx steps told (m (writes_by (get_or r.members (c.member - 1) []) r.now (deadline_of (cluster_of s) c)
+    allowed_tx steps told (m (writes_by (get_or (lists_of r.members) (c.member - 1) []) r.now (deadline_of (cluster_of s) c)
     (some_writes (map call_of steps)) c.placing h))
 
 asked_open : (v : Served) (b : Bool) (q : Question) → v.closed ≡ b → asked_by v ≡ Some q → asked v.conn ≡ Some q
@@ -97,7 +97,7 @@ asked_open v true q w e = absurd (let k : None ≡ Some q = ap (λ (x : Bool). c
 asked_open v false q w e = ap (λ (x : Bool). cond x None (asked v.conn)) (sym w) ∙ e
 
 -- what is proposed may stand in a log
-pub may_propose : (s : Setup) (r : ListRun) (v : Served) (seen : ConnSeen) (c : Client) (entry : Entry) → IsClient s v seen c
+pub may_propose : (s : Setup) (r : WorldRun) (v : Served) (seen : ConnSeen) (c : Client) (entry : Entry) → IsClient s v seen c
     → question_of (cluster_of s) c ≡ Some (leave_of entry) → reply (cluster_of s) r c ≡ proposes → IsTrue (entry_allowed entry)
 may_propose s r v seen c entry k e h =
     let live : asked v.conn ≡ Some (leave_of entry) = asked_open v v.closed (leave_of entry) refl (asked_is s v seen c k.kept ∙ e) in

@@ -3,6 +3,7 @@ use Rattle.std.proofs.Common.{◌≡◌, ℕ, ◌-◌, ◌≤◌, ◌<◌, inl, 
 use Rattle.std.specs.Prelude.{take, nat_le, not, ◌&&◌, ◌==◌, if◌then◌else◌}
 use Rattle.std.proofs.lemmas.Bool.Decides.{leb_tells}
 use Rattle.std.proofs.lemmas.Option.{slice_get_cases}
+use Rattle.ncc_tx.specs.declared.entry.Item.{Item}
 use Rattle.ncc_driver.specs.declared.action.Action.{Action}
 use Rattle.ncc_driver.specs.LawsFits.{AreBytes}
 use Rattle.ncc_clients.specs.Course.{ComeAsBytes}
@@ -11,15 +12,16 @@ use Rattle.ncc_clients.specs.Links.{Driver, Driving, Link}
 use Rattle.ncc_clients.specs.Run.{ticked}
 use Rattle.ncc_world.specs.declared.setup.Setup.{Setup}
 use Rattle.ncc_world.specs.declared.error.WorldError.{WorldError}
-use Rattle.ncc_world.specs.declared.error.WorldError.TheVariants.{BackInTime, Busy, NoMember, NoSession, WrongRole}
+use Rattle.ncc_world.specs.declared.error.WorldError.TheVariants.{BackInTime, Busy, NoMember, NoSession, WrongRole, WrongWorld}
 use Rattle.ncc_world.specs.declared.event.Event.TheVariants.{Apply}
 use Rattle.ncc_world.specs.declared.running.Running.{Running}
-use Rattle.ncc_world.specs.Setting.{cluster_of}
-use Rattle.ncc_world.specs.Happening.{ListRun, is_member, is_session, is_busy_at, refusal, unless}
+use Rattle.ncc_world.specs.Setting.{Seats, over_list, over_raft, cluster_of}
+use Rattle.ncc_world.specs.Happening.{WorldRun, is_member, is_session, is_busy_at, refuses_apply, refusal}
+use Rattle.ncc_world.specs.Rafts.{unless, refuses_core, refuses_message, refuses_pull, refuses_crash}
 use Rattle.ncc_world.specs.Drivers.{AreAtWork, IsOne, KeptDrivers, has_session, is_busy_in, left_of, refuses_work}
 use Rattle.ncc_world.specs.declared.world.World.TheInside.{Inside}
 use Rattle.ncc_world.specs.Inner.{kept_of}
-use Rattle.ncc_world.specs.World.{KeptRun, RunsAs, Stands}
+use Rattle.ncc_world.specs.World.{KeptMembers, KeptRun, AreMembers, RunsAs, Stands}
 use Rattle.ncc_world.specs.Parts.{HasDone, RunsAll, RunsMid, drivers_in, run_in}
 use Rattle.ncc_world.proofs.Opened.{allowed_by}
 
@@ -45,7 +47,7 @@ work_at s from at pending k now driving w = record {
   works = w.works;
 }
 
-pub mid_at : (s : Setup) (from at : ℕ) (w : Running) (r : ListRun) → RunsMid s from [] [] w r → RunsMid s at [] [] w r
+pub mid_at : (s : Setup) (from at : ℕ) (w : Running) (r : WorldRun) → RunsMid s from [] [] w r → RunsMid s at [] [] w r
 mid_at s from at w r k = record {
   runs_as = k.runs_as;
   drives = work_at s from at [] (drivers_in w.drivers) r.now r.driving k.drives;
@@ -54,15 +56,14 @@ mid_at s from at w r k = record {
 }
 
 -- a world that goes on
-pub all_stands : (w : Inside) (r : ListRun) → Stands (kept_of w) r → RunsAll w.setup w.run r
+pub all_stands : (w : Inside) (r : WorldRun) → Stands (kept_of w) r → RunsAll w.setup w.run r
 all_stands w r k = record { runs_as = k.runs_as; drives = k.drives; members = k.members; awake = refl }
 
 -- ---- the clock shows a later moment
 
-runs_ticked : (s : Setup) (w : KeptRun) (r : ListRun) (to : ℕ) → RunsAs s w r → RunsAs s (record w { now = to }) (ticked r to)
+runs_ticked : (s : Setup) (w : KeptRun) (r : WorldRun) (to : ℕ) → RunsAs s w r → RunsAs s (record w { now = to }) (ticked r to)
 runs_ticked s w r to k = record {
   now = refl;
-  history = k.history;
   members = k.members;
   clients = k.clients;
   told = k.told;
@@ -88,7 +89,7 @@ work_later s at left pending k now to driving h w = record {
 le_from : (a b : ℕ) → nat_le a b ≡ true → a ≤ b
 le_from a b e = elim (leb_tells a b) [ inl h ↦ h.1 | inr h ↦ absurd (let z = h.0 in cc) ]
 
-pub ticked_all : (s : Setup) (w : Running) (r : ListRun) (to : ℕ) → RunsAll s w r → unless (nat_le r.now to) BackInTime ≡ None
+pub ticked_all : (s : Setup) (w : Running) (r : WorldRun) (to : ℕ) → RunsAll s w r → unless (nat_le r.now to) BackInTime ≡ None
     → RunsAll s (record w { clock = to }) (ticked r to)
 ticked_all s w r to k e = record {
   runs_as = runs_ticked s (run_in w) r to k.runs_as;
@@ -100,10 +101,9 @@ ticked_all s w r to k e = record {
 
 -- ---- the sessions are others
 
-pub driven : (s : Setup) (w : KeptRun) (r : ListRun) (driving : Driving) → RunsAs s w r → RunsAs s w (record r { driving = driving })
+pub driven : (s : Setup) (w : KeptRun) (r : WorldRun) (driving : Driving) → RunsAs s w r → RunsAs s w (record r { driving = driving })
 driven s w r driving k = record {
   now = k.now;
-  history = k.history;
   members = k.members;
   clients = k.clients;
   told = k.told;
@@ -117,12 +117,12 @@ both true b e = (refl, e)
 both false b e = absurd (cc)
 
 -- there is one of this number
-pub record Named (r : ListRun) (session : ℕ) : Type 0 where
+pub record Named (r : WorldRun) (session : ℕ) : Type 0 where
   pub some : 0 < session
   pub driver : Driver
   pub there : driver_at r (session - 1) ≡ Some driver
 
-pub named : (r : ListRun) (session : ℕ) → unless (is_session r session) NoSession ≡ None → Named r session
+pub named : (r : WorldRun) (session : ℕ) → unless (is_session r session) NoSession ≡ None → Named r session
 named r session e =
     let h = both (nat_le 1 session) (nat_le session (length r.driving.drivers)) (allowed_by (is_session r session) NoSession e) in
     let low : 1 ≤ session = le_from 1 session h.0 in
@@ -132,7 +132,7 @@ named r session e =
       | inr g ↦ absurd (omega (arith, g.0, low, high))
     ]
 
-pub done_at : (s : Setup) (w : Running) (r : ListRun) (session : ℕ) → RunsAll s w r → Named r session → HasDone s (session - 1) w
+pub done_at : (s : Setup) (w : Running) (r : WorldRun) (session : ℕ) → RunsAll s w r → Named r session → HasDone s (session - 1) w
 done_at s w r session k n = record {
   run = r;
   pending = [];
@@ -143,11 +143,11 @@ done_at s w r session k n = record {
 
 -- ---- a work is begun
 
-pub record MayWork (r : ListRun) (session : ℕ) : Type 0 where
+pub record MayWork (r : WorldRun) (session : ℕ) : Type 0 where
   pub named : unless (is_session r session) NoSession ≡ None
   pub rests : is_busy_at r session ≡ false
 
-pub may_work : (r : ListRun) (session : ℕ)
+pub may_work : (r : WorldRun) (session : ℕ)
     → (if is_session r session then unless (not (is_busy_at r session)) Busy else Some NoSession) ≡ None → MayWork r session
 may_work r session e = go (is_session r session) (is_busy_at r session) refl refl e where
   go : (b busy : Bool) → is_session r session ≡ b → is_busy_at r session ≡ busy
@@ -156,7 +156,7 @@ may_work r session e = go (is_session r session) (is_busy_at r session) refl ref
   go true false f g h = record { named = ap (λ (b : Bool). unless b NoSession) f; rests = g }
   go false busy f g h = absurd (cc)
 
-pub refusing : (r : ListRun) (session : ℕ)
+pub refusing : (r : WorldRun) (session : ℕ)
     → refuses_work r.driving session ≡ (if is_session r session then unless (not (is_busy_at r session)) Busy else Some NoSession)
 refusing r session =
     ap (λ (o : Option WorldError). if is_session r session then o else Some NoSession) (by_driver (driver_at r (session - 1))) where
@@ -169,20 +169,53 @@ refusing r session =
       by_driver None = refl
       by_driver (Some d) = by_busy (is_busy d)
 
-pub refused_apply : (r : ListRun) (member count : ℕ) (there first : Bool) → there ≡ is_member r member → first ≡ (member == 1)
-    → (if there then (if first then Some WrongRole else None) else Some NoMember) ≡ refusal r (Apply member count)
-refused_apply r member count there first e f =
-    ap (λ (b : Bool). if b then (if first then Some WrongRole else None) else Some NoMember) e
-    ∙ ap (λ (b : Bool). if is_member r member then (if b then Some WrongRole else None) else Some NoMember) f
+-- over one list, as these members are
+applies_as : (s : Setup) (m : KeptMembers) (seats : Seats) (history : List Item) (member : ℕ) (there first : Bool)
+    → AreMembers s m seats history → first ≡ (member == 1)
+    → (if there then (if first then Some WrongRole else None) else Some NoMember) ≡ refuses_apply seats there member
+applies_as s m (over_list lists) history member there first k f =
+    ap (λ (b : Bool). if there then (if b then Some WrongRole else None) else Some NoMember) f
+applies_as s m (over_raft fleet) history member there first k f = absurd k
+
+pub refused_apply : (s : Setup) (w : KeptRun) (r : WorldRun) (member count : ℕ) (there first : Bool) → RunsAs s w r
+    → there ≡ is_member r member → first ≡ (member == 1)
+    → (if there then (if first then Some WrongRole else None) else Some NoMember) ≡ refusal s r (Apply member count)
+refused_apply s w r member count there first k e f =
+    applies_as s w.members r.members r.history member there first k.members f
+    ∙ ap (λ (b : Bool). refuses_apply r.members b member) e
+
+-- Over one list nothing happens that is of Raft alone.
+pub core_refused : (s : Setup) (m : KeptMembers) (seats : Seats) (history : List Item) (member : ℕ) → AreMembers s m seats history
+    → Some WrongWorld ≡ refuses_core s seats member
+core_refused s m (over_list lists) history member k = refl
+core_refused s m (over_raft fleet) history member k = absurd k
+
+pub message_refused : (s : Setup) (m : KeptMembers) (seats : Seats) (history : List Item) (message : ℕ) → AreMembers s m seats history
+    → Some WrongWorld ≡ refuses_message seats message
+message_refused s m (over_list lists) history message k = refl
+message_refused s m (over_raft fleet) history message k = absurd k
+
+pub pull_refused : (s : Setup) (m : KeptMembers) (seats : Seats) (history : List Item) (replica core : ℕ) → AreMembers s m seats history
+    → Some WrongWorld ≡ refuses_pull s seats replica core
+pull_refused s m (over_list lists) history replica core k = refl
+pull_refused s m (over_raft fleet) history replica core k = absurd k
+
+pub crash_refused : (s : Setup) (m : KeptMembers) (seats : Seats) (history : List Item) (member : ℕ) → AreMembers s m seats history
+    → Some WrongWorld ≡ refuses_crash s seats member
+crash_refused s m (over_list lists) history member k = refl
+crash_refused s m (over_raft fleet) history member k = absurd k
+
+pub wrong_world : (o : Option WorldError) → Some WrongWorld ≡ o → o ≡ None → ⊥
+wrong_world o e f = let z : Some WrongWorld ≡ None = e ∙ f in absurd (cc)
 
 -- The list of sessions has as many as the run.
-pub has_counted : (s : Setup) (at : ℕ) (left : List Action) (pending : List ℕ) (k : KeptDrivers) (r : ListRun) (session : ℕ)
+pub has_counted : (s : Setup) (at : ℕ) (left : List Action) (pending : List ℕ) (k : KeptDrivers) (r : WorldRun) (session : ℕ)
     → AreAtWork s at left pending k r.now r.driving → has_session (length k.list) session ≡ is_session r session
 has_counted s at left pending k r session w = ap (λ (n : ℕ). nat_le 1 session && nat_le session n) w.each.count
 
 -- ---- bytes come down
 
-pub come_as_bytes : (s : Setup) (r : ListRun) (o : Option Driver) (count : ℕ) → AreBytes (take count (down_at (cluster_of s) r o))
+pub come_as_bytes : (s : Setup) (r : WorldRun) (o : Option Driver) (count : ℕ) → AreBytes (take count (down_at (cluster_of s) r o))
     → ComeAsBytes (cluster_of s) r o (take count)
 come_as_bytes s r None count h = tt
 come_as_bytes s r (Some d) count h = λ link e.

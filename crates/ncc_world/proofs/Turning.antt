@@ -16,20 +16,20 @@ use Rattle.ncc_clients.specs.Run.{Client, waits, tells, proposes, reply, reply_b
 use Rattle.ncc_world.specs.declared.setup.Setup.{Setup}
 use Rattle.ncc_world.specs.declared.seen.ConnSeen.{ConnSeen}
 use Rattle.ncc_world.specs.declared.served.Served.{Served}
-use Rattle.ncc_world.specs.Setting.{cluster_of}
-use Rattle.ncc_world.specs.Happening.{ListRun}
+use Rattle.ncc_world.specs.Setting.{cluster_of, lists_of}
+use Rattle.ncc_world.specs.Happening.{WorldRun}
 use Rattle.ncc_world.specs.World.{KeptRun, RunsAs, AreClients, IsClient}
 use Rattle.ncc_world.specs.Parts.{IsAskedOf}
 use Rattle.ncc_world.proofs.Keeping.{Here, Counts, here_at, client_at, clients_count}
 
-pub counted : (s : Setup) (w : KeptRun) (r : ListRun) → RunsAs s w r → Counts w.clients.table w.clients.seen r.clients
+pub counted : (s : Setup) (w : KeptRun) (r : WorldRun) → RunsAs s w r → Counts w.clients.table w.clients.seen r.clients
 counted s w r k = clients_count s w.clients.table w.clients.seen r.clients k.clients.each
 
-pub here : (s : Setup) (w : KeptRun) (r : ListRun) (index : ℕ) (v : Served) (seen : ConnSeen) → RunsAs s w r → index < length w.clients.table
-    → v ≡ get_or w.clients.table index v → seen ≡ get_or w.clients.seen index seen → Here s (length r.members) r.clients index v seen
-here s w r index v seen k h e f = here_at s (length r.members) w.clients r.clients index v seen k.clients h e f
+pub here : (s : Setup) (w : KeptRun) (r : WorldRun) (index : ℕ) (v : Served) (seen : ConnSeen) → RunsAs s w r → index < length w.clients.table
+    → v ≡ get_or w.clients.table index v → seen ≡ get_or w.clients.seen index seen → Here s (length (lists_of r.members)) r.clients index v seen
+here s w r index v seen k h e f = here_at s (length (lists_of r.members)) w.clients r.clients index v seen k.clients h e f
 
-pub client_is : (s : Setup) (w : KeptRun) (r : ListRun) (index : ℕ) (v : Served) (seen : ConnSeen) (c : Client) → RunsAs s w r
+pub client_is : (s : Setup) (w : KeptRun) (r : WorldRun) (index : ℕ) (v : Served) (seen : ConnSeen) (c : Client) → RunsAs s w r
     → slice_get r.clients index ≡ Some c → v ≡ get_or w.clients.table index v → seen ≡ get_or w.clients.seen index seen → IsClient s v seen c
 client_is s w r index v seen c k e f g = client_at s w.clients.table w.clients.seen r.clients index v seen c k.clients.each e f g
 
@@ -46,20 +46,20 @@ number_at_by s (z ∷ zs) (y ∷ ys) (x ∷ xs) zero seen c h e f =
     ap (λ (k : ConnSeen). k.conn) f ∙ h.0.kept.conn ∙ ap (λ (k : Client). k.number) same
 number_at_by s (z ∷ zs) (y ∷ ys) (x ∷ xs) (suc i) seen c h e f = number_at_by s zs ys xs i seen c h.1 e f
 
-pub seen_at : (s : Setup) (w : KeptRun) (r : ListRun) (index : ℕ) (seen : ConnSeen) (c : Client) → RunsAs s w r
+pub seen_at : (s : Setup) (w : KeptRun) (r : WorldRun) (index : ℕ) (seen : ConnSeen) (c : Client) → RunsAs s w r
     → slice_get r.clients index ≡ Some c → seen ≡ get_or w.clients.seen index seen → seen.conn ≡ c.number
 seen_at s w r index seen c k e f = number_at_by s w.clients.table w.clients.seen r.clients index seen c k.clients.each e f
 
-pub reply_none : (s : Setup) (r : ListRun) (c : Client) → question_of (cluster_of s) c ≡ None → waits ≡ reply (cluster_of s) r c
+pub reply_none : (s : Setup) (r : WorldRun) (c : Client) → question_of (cluster_of s) c ≡ None → waits ≡ reply (cluster_of s) r c
 unfolding reply
 reply_none s r c e = ap (reply_by (cluster_of s) r c) (sym e)
 
-pub reply_some : (s : Setup) (r : ListRun) (c : Client) (q : Question) → question_of (cluster_of s) c ≡ Some q
+pub reply_some : (s : Setup) (r : WorldRun) (c : Client) (q : Question) → question_of (cluster_of s) c ≡ Some q
     → answers (cluster_of s) r c q ≡ reply (cluster_of s) r c
 unfolding reply
 reply_some s r c q e = ap (reply_by (cluster_of s) r c) (sym e)
 
-pub asked_so : (s : Setup) (now wait : ℕ) (r : ListRun) (v : Served) (seen : ConnSeen) (c : Client) (deadline : ℕ) → IsClient s v seen c
+pub asked_so : (s : Setup) (now wait : ℕ) (r : WorldRun) (v : Served) (seen : ConnSeen) (c : Client) (deadline : ℕ) → IsClient s v seen c
     → now ≡ r.now → s.wait ≡ wait → deadline ≡ min (v.since + wait) (2 ^ 64 - 1) → IsAskedOf s now seen.member deadline v.placing r c
 asked_so s now wait r v seen c deadline k e f g = record {
   now_is = e;
@@ -79,16 +79,16 @@ not_told : (b : Bool) (f g : Fact) → cond b (tells f) (tells g) ≡ proposes �
 not_told true f g e = cc
 not_told false f g e = cc
 
-pub no_enter : (s : Setup) (r : ListRun) (c : Client) (need : ℕ) → answers (cluster_of s) r c (asks_of (a.Enter need)) ≡ proposes → ⊥
+pub no_enter : (s : Setup) (r : WorldRun) (c : Client) (need : ℕ) → answers (cluster_of s) r c (asks_of (a.Enter need)) ≡ proposes → ⊥
 no_enter s r c need e = not_entering _ need r.now _ e
 
-pub no_run : (s : Setup) (r : ListRun) (c : Client) (calls : List Call) → runs ((cluster_of s).leads r.members c.member)
-    (get_or r.members (c.member - 1) []) calls ≡ proposes → ⊥
+pub no_run : (s : Setup) (r : WorldRun) (c : Client) (calls : List Call) → runs ((cluster_of s).leads r.members c.member)
+    (get_or (lists_of r.members) (c.member - 1) []) calls ≡ proposes → ⊥
 no_run s r c calls e =
     not_told (last_writes calls && not ((cluster_of s).leads r.members c.member)) Elsewhere
-    (ran (length (get_or r.members (c.member - 1) [])) (exec (state (get_or r.members (c.member - 1) [])) calls)) e
+    (ran (length (get_or (lists_of r.members) (c.member - 1) [])) (exec (state (get_or (lists_of r.members) (c.member - 1) [])) calls)) e
 
-pub no_route : (s : Setup) (r : ListRun) (c : Client) → answers (cluster_of s) r c (asks_of a.Route) ≡ proposes → ⊥
+pub no_route : (s : Setup) (r : WorldRun) (c : Client) → answers (cluster_of s) r c (asks_of a.Route) ≡ proposes → ⊥
 no_route s r c e = cc
 
 pub no_wait : waits ≡ proposes → ⊥

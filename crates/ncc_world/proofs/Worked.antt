@@ -16,34 +16,36 @@ use Rattle.ncc_clients.specs.Run.{Client, question_of, deadline_of, reply, reply
 use Rattle.ncc_world.specs.declared.setup.Setup.{Setup}
 use Rattle.ncc_world.specs.declared.event.Event.TheVariants as event
 use Rattle.ncc_world.specs.declared.error.WorldError.TheVariants as error
-use Rattle.ncc_world.specs.Setting.{IsSetup, Lists, cluster_of, nobody, list_at, appended}
+use Rattle.ncc_world.specs.Setting.{IsSetup, Lists, cluster_of, nobody, list_at, appended, Seats, over_list, over_raft, lists_of}
 use Rattle.ncc_world.specs.Requests.{client_bytes}
 use Rattle.ncc_clients.specs.Links.{Link, Linked, Driver, lift_bytes}
 use Rattle.ncc_clients.specs.Drives.{feeds_one, driver_at, is_busy, lifts, lifts_by, falls, falls_by, cuts, cuts_by, up_at, down_at, waits_above, Rests}
 use Rattle.ncc_world.specs.declared.event.Job.{Job}
-use Rattle.ncc_world.specs.Happening.{ListRun, unless, is_printed, is_linked, is_open_made, is_session, is_busy_at, refusal, own, asks, Steps}
+use Rattle.ncc_safety.specs.Fleet.{Fleet}
+use Rattle.ncc_world.specs.Happening.{WorldRun, refuses_apply, is_printed, is_linked, is_open_made, is_session, is_busy_at, refusal, own, asks, Steps}
+use Rattle.ncc_world.specs.Rafts.{unless, has_member, refuses_core, refuses_message}
 
 -- ---- members
 
-full_or : (lists : Lists) (entry : Entry) → Bool → Proposed Lists
-full_or lists entry b = cond b (full (length (list_at lists 1))) (placed (length (list_at lists 1) + 1) 1 (appended lists entry))
+full_or : (lists : Lists) (entry : Entry) → Bool → Proposed Seats
+full_or lists entry b = cond b (full (length (list_at lists 1))) (placed (length (list_at lists 1) + 1) 1 (over_list (appended lists entry)))
 
 pub first_entry : (s : Setup) (entry : Entry) → IsSetup s
-    → (cluster_of s).propose (nobody s) 1 entry ≡ placed 1 1 (appended (nobody s) entry)
+    → (cluster_of s).propose (over_list (nobody s)) 1 entry ≡ placed 1 1 (over_list (appended (nobody s) entry))
 unfolding full_or
 first_entry s entry h =
     let none : list_at (nobody s) 1 ≡ [] = go (s.cores + s.replicas) in
     let len : length (list_at (nobody s) 1) ≡ 0 = ap length none in
     let more : nat_le s.limit (length (list_at (nobody s) 1)) ≡ false =
     lt-leb s.limit (length (list_at (nobody s) 1)) (omega (arith, h.limit.0, len)) in
-    ap (full_or (nobody s) entry) more ∙ ap (λ n. placed (n + 1) 1 (appended (nobody s) entry)) len
+    ap (full_or (nobody s) entry) more ∙ ap (λ n. placed (n + 1) 1 (over_list (appended (nobody s) entry))) len
   where
     go : (n : ℕ) → list_at (replicate n []) 1 ≡ []
     go zero = refl
     go (suc n) = refl
 
 pub full_log : (s : Setup) (lists : Lists) (entry : Entry) → length (list_at lists 1) ≡ s.limit
-    → (cluster_of s).propose lists 1 entry ≡ full s.limit
+    → (cluster_of s).propose (over_list lists) 1 entry ≡ full s.limit
 unfolding full_or
 full_log s lists entry e =
     let enough : nat_le s.limit (length (list_at lists 1)) ≡ true = le-leb s.limit (length (list_at lists 1)) (omega (arith, e)) in
@@ -51,15 +53,59 @@ full_log s lists entry e =
 
 -- ---- events
 
-pub clock_stands : (r : ListRun) → refusal r (event.Time r.now) ≡ None
-clock_stands r = ap (λ b. unless b error.BackInTime) (le-leb r.now r.now (omega arith))
+pub clock_stands : (s : Setup) (r : WorldRun) → refusal s r (event.Time r.now) ≡ None
+clock_stands s r = ap (λ b. unless b error.BackInTime) (le-leb r.now r.now (omega arith))
 
-pub clock_back : (r : ListRun) (to : ℕ) → to < r.now → refusal r (event.Time to) ≡ Some error.BackInTime
-clock_back r to h = ap (λ b. unless b error.BackInTime) (lt-leb r.now to h)
+pub clock_back : (s : Setup) (r : WorldRun) (to : ℕ) → to < r.now → refusal s r (event.Time to) ≡ Some error.BackInTime
+clock_back s r to h = ap (λ b. unless b error.BackInTime) (lt-leb r.now to h)
 
-pub leader_lags_not : (r : ListRun) (count : ℕ) → 1 ≤ length r.members → refusal r (event.Apply 1 count) ≡ Some error.WrongRole
-leader_lags_not r count h =
-    ap (λ b. cond (true && b) (Some error.WrongRole) (Some error.NoMember)) (le-leb 1 (length r.members) h)
+-- an event by which a member applies, among these members
+applies_in : (s : Setup) (r : WorldRun) (seats : Seats) (member count : ℕ) → r.members ≡ seats
+    → refusal s r (event.Apply member count) ≡ refuses_apply seats (nat_le 1 member && nat_le member (length (lists_of seats))) member
+applies_in s r seats member count e =
+    ap (λ (x : Seats). refuses_apply x (nat_le 1 member && nat_le member (length (lists_of x))) member) e
+
+pub leader_lags_not : (s : Setup) (r : WorldRun) (lists : Lists) (count : ℕ) → r.members ≡ over_list lists → 1 ≤ length lists
+    → refusal s r (event.Apply 1 count) ≡ Some error.WrongRole
+leader_lags_not s r lists count e h =
+    applies_in s r (over_list lists) 1 count e
+    ∙ ap (λ b. cond (true && b) (Some error.WrongRole) (Some error.NoMember)) (le-leb 1 (length lists) h)
+
+pub nobody_lags : (s : Setup) (r : WorldRun) (lists : Lists) (count : ℕ) → r.members ≡ over_list lists
+    → refusal s r (event.Apply 0 count) ≡ Some error.NoMember
+nobody_lags s r lists count e = applies_in s r (over_list lists) 0 count e
+
+pub raft_lags_not : (s : Setup) (r : WorldRun) (fleet : Fleet) (member count : ℕ) → r.members ≡ over_raft fleet
+    → refusal s r (event.Apply member count) ≡ Some error.WrongWorld
+raft_lags_not s r fleet member count e = applies_in s r (over_raft fleet) member count e
+
+-- ---- events of members over Raft
+
+no_core_in : (s : Setup) (r : WorldRun) (seats : Seats) (member : ℕ) → r.members ≡ seats
+    → refusal s r (event.Timeout member) ≡ refuses_core s seats member
+no_core_in s r seats member e = ap (λ (x : Seats). refuses_core s x member) e
+
+pub lists_time_out_not : (s : Setup) (r : WorldRun) (lists : Lists) (member : ℕ) → r.members ≡ over_list lists
+    → refusal s r (event.Timeout member) ≡ Some error.WrongWorld
+lists_time_out_not s r lists member e = no_core_in s r (over_list lists) member e
+
+pub nobody_times_out : (s : Setup) (r : WorldRun) (fleet : Fleet) → r.members ≡ over_raft fleet
+    → refusal s r (event.Timeout 0) ≡ Some error.NoMember
+nobody_times_out s r fleet e = no_core_in s r (over_raft fleet) 0 e
+
+pub replicas_time_out_not : (s : Setup) (r : WorldRun) (fleet : Fleet) → r.members ≡ over_raft fleet → 1 ≤ s.replicas
+    → refusal s r (event.Timeout (s.cores + 1)) ≡ Some error.WrongRole
+replicas_time_out_not s r fleet e h =
+    let there : has_member s (s.cores + 1) ≡ true =
+    ap (λ b. b && nat_le (s.cores + 1) (s.cores + s.replicas)) (le-leb 1 (s.cores + 1) (omega arith))
+    ∙ le-leb (s.cores + 1) (s.cores + s.replicas) (omega (arith, h)) in
+    no_core_in s r (over_raft fleet) (s.cores + 1) e
+    ∙ ap (λ b. cond b (unless (nat_le (s.cores + 1) s.cores) error.WrongRole) (Some error.NoMember)) there
+    ∙ ap (λ b. unless b error.WrongRole) (lt-leb (s.cores + 1) s.cores (omega arith))
+
+pub no_message_is_first : (s : Setup) (r : WorldRun) (fleet : Fleet) → r.members ≡ over_raft fleet
+    → refusal s r (event.Deliver 0) ≡ Some error.NoMessage
+no_message_is_first s r fleet e = ap (λ (x : Seats). refuses_message x 0) e
 
 get_last : {X : Type 0} (xs : List X) (x : X) → slice_get (xs ++ (x ∷ [])) (length xs) ≡ Some x
 get_last [] x = refl
@@ -71,7 +117,7 @@ get_set (z ∷ xs) zero x y e = refl
 get_set (z ∷ xs) (suc i) x y e = get_set xs i x y e
 
 -- the connection of a `put` or a `get` was made by no `open`
-not_printed : (s : Setup) (r : ListRun) (member : ℕ) (request : Request)
+not_printed : (s : Setup) (r : WorldRun) (member : ℕ) (request : Request)
     → is_printed (slice_get (asks s r member request).clients (length r.clients)) ≡ false
 not_printed s r member request =
     let c : Client = record {
@@ -90,14 +136,14 @@ not_printed s r member request =
     get_set (r.clients ++ (c ∷ [])) (length r.clients) c new there in
     let fed_is : asks s r member request ≡ fed (cluster_of s) (opened r member false) (length r.clients) c (client_bytes request) =
     ap (feeds_one (cluster_of s) (opened r member false) (length r.clients) (client_bytes request)) there in
-    ap (λ (x : ListRun). is_printed (slice_get x.clients (length r.clients))) fed_is ∙ ap is_printed then_
+    ap (λ (x : WorldRun). is_printed (slice_get x.clients (length r.clients))) fed_is ∙ ap is_printed then_
 
-pub unnamed : (s : Setup) (r : ListRun) (member : ℕ) (request : Request) (bytes : List ℕ)
-    → refusal (asks s r member request) (event.Bytes (length r.clients + 1) bytes) ≡ Some error.NoConn
+pub unnamed : (s : Setup) (r : WorldRun) (member : ℕ) (request : Request) (bytes : List ℕ)
+    → refusal s (asks s r member request) (event.Bytes (length r.clients + 1) bytes) ≡ Some error.NoConn
 unnamed s r member request bytes =
     let index : length r.clients ≡ length r.clients + 1 - 1 = omega arith in
     let low : nat_le 1 (length r.clients + 1) ≡ true = le-leb 1 (length r.clients + 1) (omega arith) in
-    let t : ListRun = asks s r member request in
+    let t : WorldRun = asks s r member request in
     let conn : ℕ = length r.clients + 1 in
     let unseen : is_printed (slice_get t.clients (conn - 1)) ≡ false =
     subst (λ i. is_printed (slice_get t.clients i) ≡ false) index (not_printed s r member request) in
@@ -106,7 +152,7 @@ unnamed s r member request bytes =
     ∙ ap (λ b. b && not (is_linked t conn)) unseen in
     ap (λ b. unless b error.NoConn) made
 
-pub closed_stays : (s : Setup) (line : ℕ) (r : ListRun) (conn : ℕ) (c : Client) (bytes : List ℕ) → slice_get r.clients (conn - 1) ≡ Some c
+pub closed_stays : (s : Setup) (line : ℕ) (r : WorldRun) (conn : ℕ) (c : Client) (bytes : List ℕ) → slice_get r.clients (conn - 1) ≡ Some c
     → c.closed ≡ true → own s line (event.Bytes conn bytes) r ≡ r
 unfolding own
 closed_stays s line r conn c bytes e f =
@@ -126,9 +172,9 @@ any_is conn (x ∷ xs) l (suc n, lt, g) e = or_true (x.conn == conn) _ (any_is c
   or_true true b h = refl
   or_true false b h = h
 
-pub links_are_apart : (r : ListRun) (l : Linked) (bytes : List ℕ) → Contains r.driving.linked l
-    → refusal r (event.Bytes l.conn bytes) ≡ Some error.NoConn
-links_are_apart r l bytes has =
+pub links_are_apart : (s : Setup) (r : WorldRun) (l : Linked) (bytes : List ℕ) → Contains r.driving.linked l
+    → refusal s r (event.Bytes l.conn bytes) ≡ Some error.NoConn
+links_are_apart s r l bytes has =
     let there : is_linked r l.conn ≡ true = any_is l.conn r.driving.linked l has refl in
     ap (λ b. unless b error.NoConn)
     (ap (λ b. nat_le 1 l.conn && (is_printed (slice_get r.clients (l.conn - 1)) && not b)) there
@@ -139,17 +185,17 @@ links_are_apart r l bytes has =
     none true false = refl
     none false b = refl
 
-not_there : (r : ListRun) → is_session r (length r.driving.drivers + 1) ≡ false
+not_there : (r : WorldRun) → is_session r (length r.driving.drivers + 1) ≡ false
 not_there r =
     let n : ℕ = length r.driving.drivers in
     ap (λ b. b && nat_le (n + 1) n) (le-leb 1 (n + 1) (omega arith)) ∙ lt-leb (n + 1) n (omega arith)
 
-pub no_session : (r : ListRun) → refusal r (event.Cut (length r.driving.drivers + 1)) ≡ Some error.NoSession
-no_session r = ap (λ b. unless b error.NoSession) (not_there r)
+pub no_session : (s : Setup) (r : WorldRun) → refusal s r (event.Cut (length r.driving.drivers + 1)) ≡ Some error.NoSession
+no_session s r = ap (λ b. unless b error.NoSession) (not_there r)
 
-pub busy_session : (r : ListRun) (session : ℕ) (d : Driver) (job : Job) → 1 ≤ session → driver_at r (session - 1) ≡ Some d
-    → is_busy d ≡ true → refusal r (event.Work session job) ≡ Some error.Busy
-busy_session r session d job low there busy =
+pub busy_session : (s : Setup) (r : WorldRun) (session : ℕ) (d : Driver) (job : Job) → 1 ≤ session → driver_at r (session - 1) ≡ Some d
+    → is_busy d ≡ true → refusal s r (event.Work session job) ≡ Some error.Busy
+busy_session s r session d job low there busy =
     let high : session ≤ length r.driving.drivers = omega (arith, low, within r.driving.drivers (session - 1) d there) in
     let is : is_session r session ≡ true =
     ap (λ b. b && nat_le session (length r.driving.drivers)) (le-leb 1 session low)
@@ -167,7 +213,7 @@ busy_session r session d job low there busy =
     within (y ∷ ys) (suc i) x e = omega (arith, within ys i x e)
 
 -- without a link nothing moves
-module _ (s : Setup) (line : ℕ) (r : ListRun) (session : ℕ) (d : Driver) (there : driver_at r (session - 1) ≡ Some d)
+module _ (s : Setup) (line : ℕ) (r : WorldRun) (session : ℕ) (d : Driver) (there : driver_at r (session - 1) ≡ Some d)
     (none : d.link ≡ None) where
   pub nothing_up : (count : ℕ) → own s line (event.Up session count) r ≡ r
   unfolding own
@@ -199,18 +245,18 @@ module _ (s : Setup) (line : ℕ) (r : ListRun) (session : ℕ) (d : Driver) (th
       ap (down_at C r) there ∙ ap (λ (o : Option Link). elim o [ Some link ↦ waits_above C r link | None ↦ [] ]) none in
       (tt, Rests None r up down, tt)
 
-pub none_counted : (s : Setup) (line session : ℕ) (r t : ListRun) → Steps s line (event.Pump session (Some 0)) r t → ⊥
+pub none_counted : (s : Setup) (line session : ℕ) (r t : WorldRun) → Steps s line (event.Pump session (Some 0)) r t → ⊥
 none_counted s line session r t h = omega (arith, h.0)
 
 -- ---- waits
 
-reply_is : (s : Setup) (r : ListRun) (c : Client) (need : ℕ) → question_of (cluster_of s) c ≡ Some (enter need)
+reply_is : (s : Setup) (r : WorldRun) (c : Client) (need : ℕ) → question_of (cluster_of s) c ≡ Some (enter need)
     → reply (cluster_of s) r c ≡ enters (at_of (cluster_of s) r.members c.member) need r.now
     (outcome_of (at_of (cluster_of s) r.members c.member) need r.now (deadline_of (cluster_of s) c))
 unfolding reply
 reply_is s r c need e = ap (reply_by (cluster_of s) r c) e
 
-pub waits_at_deadline : (s : Setup) (r : ListRun) (c : Client) (need : ℕ) → question_of (cluster_of s) c ≡ Some (enter need)
+pub waits_at_deadline : (s : Setup) (r : WorldRun) (c : Client) (need : ℕ) → question_of (cluster_of s) c ≡ Some (enter need)
     → at_of (cluster_of s) r.members c.member < need → r.now ≡ deadline_of (cluster_of s) c → reply (cluster_of s) r c ≡ waits
 waits_at_deadline s r c need e h f =
     let at : ℕ = at_of (cluster_of s) r.members c.member in
@@ -220,7 +266,7 @@ waits_at_deadline s r c need e h f =
     ∙ (ap (λ b. enters at need r.now (cond b Ready (cond (nat_lt (deadline_of (cluster_of s) c) r.now) IsLate NotYet))) below
     ∙ ap (λ b. enters at need r.now (cond b IsLate NotYet)) not)
 
-pub late_past_it : (s : Setup) (r : ListRun) (c : Client) (need : ℕ) → question_of (cluster_of s) c ≡ Some (enter need)
+pub late_past_it : (s : Setup) (r : WorldRun) (c : Client) (need : ℕ) → question_of (cluster_of s) c ≡ Some (enter need)
     → at_of (cluster_of s) r.members c.member < need → r.now ≡ deadline_of (cluster_of s) c + 1
     → reply (cluster_of s) r c ≡ tells (Late need (at_of (cluster_of s) r.members c.member) r.now)
 late_past_it s r c need e h f =
@@ -231,7 +277,7 @@ late_past_it s r c need e h f =
     ∙ (ap (λ b. enters at need r.now (cond b Ready (cond (nat_lt (deadline_of (cluster_of s) c) r.now) IsLate NotYet))) below
     ∙ ap (λ b. enters at need r.now (cond b IsLate NotYet)) past)
 
-pub enters_at_once : (s : Setup) (r : ListRun) (c : Client) (need : ℕ) → question_of (cluster_of s) c ≡ Some (enter need)
+pub enters_at_once : (s : Setup) (r : WorldRun) (c : Client) (need : ℕ) → question_of (cluster_of s) c ≡ Some (enter need)
     → need ≤ at_of (cluster_of s) r.members c.member
     → reply (cluster_of s) r c ≡ tells (Entered (at_of (cluster_of s) r.members c.member))
 enters_at_once s r c need e h =

@@ -16,8 +16,8 @@ use Rattle.ncc_session.specs.Transactions.{Held, after}
 use Rattle.ncc_clients.specs.Run.{Client, talk_of}
 use Rattle.ncc_world.specs.declared.setup.Setup.{Setup}
 use Rattle.ncc_world.specs.declared.earlier.Earlier.{Earlier}
-use Rattle.ncc_world.specs.Setting.{cluster_of, list_at}
-use Rattle.ncc_world.specs.Happening.{ListRun}
+use Rattle.ncc_world.specs.Setting.{lists_of, cluster_of, list_at}
+use Rattle.ncc_world.specs.Happening.{WorldRun}
 
 -- what some calls left over a store
 pub record Left (g : Graph) (calls : List Call) (delta : Delta) : Type 0 where
@@ -54,10 +54,10 @@ pub record Remembers (s : Setup) (list : List Item) (c : Client) (o : Option Ear
   pub kept : IsKeptOf list (open_behind None in_turn.answered c.facts) o
 
 -- of each
-pub record AllRemember (s : Setup) (earlier : List (Option Earlier)) (r : ListRun) : Type 0 where
+pub record AllRemember (s : Setup) (earlier : List (Option Earlier)) (r : WorldRun) : Type 0 where
   pub count : length earlier ≡ length r.clients
   pub each : (i : ℕ) (c : Client) (o : Option Earlier) → slice_get r.clients i ≡ Some c → slice_get earlier i ≡ Some o
-      → Remembers s (list_at r.members c.member) c o
+      → Remembers s (list_at (lists_of r.members) c.member) c o
 
 -- ---- a question of further steps
 
@@ -86,6 +86,6 @@ LeftBy list question fact None = Unit {0}
 LeftBy list question fact (Some e) = IsRan list question fact e
 
 -- of a connection, whose session asks so
-abbrev pub LeftFor : Setup → ListRun → Client → Fact → Option Earlier → Type 0
+abbrev pub LeftFor : Setup → WorldRun → Client → Fact → Option Earlier → Type 0
 LeftFor s r c fact o =
-    (question : Question) → asked_at (talk_of (cluster_of s) c).core ≡ Some question → LeftBy (list_at r.members c.member) question fact o
+    (question : Question) → asked_at (talk_of (cluster_of s) c).core ≡ Some question → LeftBy (list_at (lists_of r.members) c.member) question fact o

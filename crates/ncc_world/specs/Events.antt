@@ -4,7 +4,8 @@ use Rattle.std.specs.List.{All, list_all}
 use Rattle.ncc_pack.specs.Fits.{fits_i64}
 use Rattle.ncc_bookmark.specs.Point.{Point, Fits}
 use Rattle.ncc_world.specs.declared.event.Event.{Event}
-use Rattle.ncc_world.specs.declared.event.Event.TheVariants.{Time, Put, Get, Apply, Open, Bytes, Close, Session, Work, Up, Down, Pump, Cut}
+use Rattle.ncc_world.specs.declared.event.Event.TheVariants.{Time, Put, Get, Apply, Timeout, Beat, Deliver, Pull, Crash, Open, Bytes, Close}
+use Rattle.ncc_world.specs.declared.event.Event.TheVariants.{Session, Work, Up, Down, Pump, Cut}
 use Rattle.ncc_world.specs.declared.event.Job.{Job}
 use Rattle.ncc_world.specs.declared.event.Job.TheVariants.{Add}
 use Rattle.ncc_world.specs.declared.event.Job.TheVariants as job
@@ -43,6 +44,11 @@ MayHappen cluster (Put member key value bookmarks) =
     (is_word key ≡ true) × (is_word value ≡ true) × AreOf cluster bookmarks × AreFew bookmarks
 MayHappen cluster (Get member key bookmarks) = (is_word key ≡ true) × AreOf cluster bookmarks × AreFew bookmarks
 MayHappen cluster (Apply member count) = 1 ≤ count
+MayHappen cluster (Timeout member) = Unit {0}
+MayHappen cluster (Beat member) = Unit {0}
+MayHappen cluster (Deliver message) = Unit {0}
+MayHappen cluster (Pull replica core) = Unit {0}
+MayHappen cluster (Crash member) = Unit {0}
 MayHappen cluster (Open member) = Unit {0}
 MayHappen cluster (Bytes conn bytes) = (1 ≤ length bytes) × (length bytes ≤ 1_048_576)
 MayHappen cluster (Close conn) = Unit {0}

@@ -13,18 +13,19 @@ use Rattle.ncc_clients.specs.Reads.{SessionsReadTheirWrites}
 use Rattle.ncc_world.specs.declared.setup.Setup.{Setup}
 use Rattle.ncc_world.specs.declared.event.Event.{Event}
 use Rattle.ncc_world.specs.Events.{MayHappen}
-use Rattle.ncc_world.specs.Setting.{IsSetup, cluster_of, nobody}
-use Rattle.ncc_world.specs.Happening.{ListRun, start_of, RunsOn, Within}
+use Rattle.ncc_safety.specs.Fleet.{fleet_start}
+use Rattle.ncc_world.specs.Setting.{IsSetup, over_raft, lists_of, cluster_of, seats_of, shape_of}
+use Rattle.ncc_world.specs.Happening.{WorldRun, start_of, RunsOn, Within}
 
 -- at every moment every member's applied list begins the history of the whole run
-abbrev pub MembersAgree : Setup → List (ℕ × Event) → ListRun → Type 0
+abbrev pub MembersAgree : Setup → List (ℕ × Event) → WorldRun → Type 0
 MembersAgree s es end =
-    (line : ℕ) (r : ListRun) → Within s es line r → AllByRecursion (λ list. Begins list end.history) r.members
+    (line : ℕ) (r : WorldRun) → Within s es line r → AllByRecursion (λ list. Begins list end.history) (lists_of r.members)
 
 -- A fact: it was told in the event of its line, at a moment at which the facts before it had been told and no other, by a turn that
 -- answered its connection's question, and it is lawful there against the history of the whole run.
-pub record IsLawful (s : Setup) (es : List (ℕ × Event)) (end : ListRun) (earlier : List Told) (t : Told) : Type 0 where
-  pub moment : ListRun
+pub record IsLawful (s : Setup) (es : List (ℕ × Event)) (end : WorldRun) (earlier : List Told) (t : Told) : Type 0 where
+  pub moment : WorldRun
   pub within : Within s es t.line moment
   pub told_then : moment.told ≡ earlier
   pub index : ℕ
@@ -37,17 +38,17 @@ pub record IsLawful (s : Setup) (es : List (ℕ × Event)) (end : ListRun) (earl
   pub turn : Turn (cluster_of s) t.line moment (told_to t.line moment index client t.fact)
   pub lawful : Lawful (cluster_of s) end.history moment index client question t.fact
 
-abbrev pub FactsAreLawful : Setup → List (ℕ × Event) → ListRun → Type 0
+abbrev pub FactsAreLawful : Setup → List (ℕ × Event) → WorldRun → Type 0
 FactsAreLawful s es end = (k : ℕ) (t : Told) → slice_get end.told k ≡ Some t → IsLawful s es end (take k end.told) t
 
 -- no connection vanishes on the way from any moment to the end
-abbrev pub AllGoOn : Setup → List (ℕ × Event) → ListRun → Type 0
-AllGoOn s es end = (line : ℕ) (r : ListRun) → Within s es line r → NobodyVanishes r end
+abbrev pub AllGoOn : Setup → List (ℕ × Event) → WorldRun → Type 0
+AllGoOn s es end = (line : ℕ) (r : WorldRun) → Within s es line r → NobodyVanishes r end
 
 -- after each event nobody is left waiting who can be answered
 abbrev pub AfterEach : Setup → List (ℕ × Event) → Type 0
 AfterEach s es =
-    (before behind : List (ℕ × Event)) (r : ListRun) → es ≡ before ++ behind → RunsOn s before (start_of s) r
+    (before behind : List (ℕ × Event)) (r : WorldRun) → es ≡ before ++ behind → RunsOn s before (start_of s) r
     → NobodyIsForgotten (cluster_of s) r
 
 -- each event is one that a world takes
@@ -55,7 +56,7 @@ abbrev pub AllMayHappen : Setup → List (ℕ × Event) → Type 0
 AllMayHappen s es = AllByRecursion (λ (e : ℕ × Event). MayHappen s.cluster e.1) es
 
 -- all of it
-pub record Headline (s : Setup) (es : List (ℕ × Event)) (end : ListRun) : Type 0 where
+pub record Headline (s : Setup) (es : List (ℕ × Event)) (end : WorldRun) : Type 0 where
   pub members_agree : MembersAgree s es end
   pub facts_are_lawful : FactsAreLawful s es end
   pub places_are_apart : PlacesAreApart end
@@ -64,13 +65,17 @@ pub record Headline (s : Setup) (es : List (ℕ × Event)) (end : ListRun) : Typ
   pub nobody_is_forgotten : AfterEach s es
   pub sessions_read_their_writes : AllMayHappen s es → SessionsReadTheirWrites end
 
--- the four facts that clients rest on hold of members over one list
+-- The facts that clients rest on hold of members over one list,
 abbrev pub ListKeepsFour : Type 0
-ListKeepsFour = (s : Setup) → IsSetup s → Four (cluster_of s) (nobody s)
+ListKeepsFour = (s : Setup) → IsSetup s → Four (cluster_of s) (seats_of s)
+
+-- and of members over Raft, which begin with empty logs and journals.
+abbrev pub RaftKeepsFour : Type 0
+RaftKeepsFour = (s : Setup) → Four (cluster_of s) (over_raft (fleet_start (shape_of s)))
 
 abbrev pub EveryRunKeeps : Type 0
-EveryRunKeeps = (s : Setup) (es : List (ℕ × Event)) (end : ListRun) → IsSetup s → RunsOn s es (start_of s) end → Headline s es end
+EveryRunKeeps = (s : Setup) (es : List (ℕ × Event)) (end : WorldRun) → IsSetup s → RunsOn s es (start_of s) end → Headline s es end
 
 -- there is one run of some events
 abbrev pub OneRun : Type 0
-OneRun = (s : Setup) (es : List (ℕ × Event)) (r t u : ListRun) → RunsOn s es r t → RunsOn s es r u → t ≡ u
+OneRun = (s : Setup) (es : List (ℕ × Event)) (r t u : WorldRun) → RunsOn s es r t → RunsOn s es r u → t ≡ u

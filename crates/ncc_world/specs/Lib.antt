@@ -1,4 +1,5 @@
 pub mod Setting
+pub mod Rafts
 pub mod Events
 pub mod Requests
 pub mod Spellable

@@ -19,8 +19,8 @@ use Rattle.ncc_world.specs.declared.seen.ConnSeen.{ConnSeen}
 use Rattle.ncc_world.specs.declared.earlier.Earlier.{Earlier}
 use Rattle.ncc_world.specs.declared.served.ProposedAt.{ProposedAt}
 use Rattle.ncc_world.specs.declared.served.Served.{Served}
-use Rattle.ncc_world.specs.Setting.{Lists, cluster_of, list_at}
-use Rattle.ncc_world.specs.Happening.{ListRun}
+use Rattle.ncc_world.specs.Setting.{Lists, Seats, over_list, over_raft, lists_of, cluster_of, list_at}
+use Rattle.ncc_world.specs.Happening.{WorldRun}
 use Rattle.ncc_world.specs.Showing.{members_from, conn_seen}
 use Rattle.ncc_world.specs.Earlier.{AllRemember}
 use Rattle.ncc_world.specs.Drivers.{KeptDrivers, AreAtWork}
@@ -31,7 +31,7 @@ pub data Standing : Type 0 where
   past : Which → Standing
   spent : Standing
 
--- ---- members: the one list, and what each has applied of it
+-- ---- members: the longest list, and what each has applied
 
 pub record KeptMembers : Type 0 where
   pub items : List Item
@@ -49,12 +49,17 @@ AreShelves items [] [] = Unit {0}
 AreShelves items (shelf ∷ shelves) (list ∷ lists) = IsShelf items shelf list × AreShelves items shelves lists
 AreShelves items _ _ = ⊥
 
--- member 1 has applied it all
-pub record AreMembers (s : Setup) (m : KeptMembers) (lists : Lists) : Type 0 where
+-- over one list, of which member 1 has applied all
+pub record AreOneList (s : Setup) (m : KeptMembers) (lists : Lists) : Type 0 where
   pub shelves : AreShelves m.items m.shelves lists
   pub first : list_at lists 1 ≡ m.items
   pub some : 0 < length lists
   pub seen : m.seen ≡ members_from s 1 lists
+
+-- the members of a run, and its history
+abbrev pub AreMembers : Setup → KeptMembers → Seats → List Item → Type 0
+AreMembers s m (over_list lists) history = AreOneList s m lists × (m.items ≡ history)
+AreMembers s m (over_raft fleet) history = ⊥
 
 -- ---- connections: their numbers, what is kept of each, what each shows, and who waits at each member and has not ended
 
@@ -165,11 +170,10 @@ pub record KeptRun : Type 0 where
   -- what is kept of the transaction that is open at each connection
   pub earlier : List (Option Earlier)
 
-pub record RunsAs (s : Setup) (k : KeptRun) (r : ListRun) : Type 0 where
+pub record RunsAs (s : Setup) (k : KeptRun) (r : WorldRun) : Type 0 where
   pub now : k.now ≡ r.now
-  pub history : k.members.items ≡ r.history
-  pub members : AreMembers s k.members r.members
-  pub clients : AreServed s (length r.members) k.clients r.clients
+  pub members : AreMembers s k.members r.members r.history
+  pub clients : AreServed s (length (lists_of r.members)) k.clients r.clients
   pub told : k.told ≡ r.told
   pub earlier : AllRemember s k.earlier r
 
@@ -179,11 +183,11 @@ pub record Kept : Type 0 where
   pub run : KeptRun
   pub drivers : KeptDrivers
 
-pub record Stands (w : Kept) (r : ListRun) : Type 0 where
+pub record Stands (w : Kept) (r : WorldRun) : Type 0 where
   pub goes_on : w.standing ≡ alive
   pub runs_as : RunsAs w.setup w.run r
   pub drives : AreAtWork w.setup 0 [] [] w.drivers r.now r.driving
-  pub members : length r.members ≡ w.setup.cores + w.setup.replicas
+  pub members : length (lists_of r.members) ≡ w.setup.cores + w.setup.replicas
 
 -- an error that refuses an event
 abbrev pub is_refusal : WorldError → Bool

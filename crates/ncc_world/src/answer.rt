@@ -11,14 +11,13 @@ ghost use Rattle.ncc_session.specs.Core.{question_of};
 ghost use Rattle.ncc_session.specs.Question.{run, call_writes, last_writes};
 ghost use Rattle.ncc_clients.specs.Run.{Client, tells, answers, enters, runs, ran, leaves, last_rows, lands, found_at};
 ghost use Rattle.ncc_world.specs.Earlier.{IsFrom, Left};
-ghost use Rattle.ncc_world.specs.Setting.{Lists, cluster_of, list_at};
-ghost use Rattle.ncc_world.specs.Happening.{ListRun};
+ghost use Rattle.ncc_world.specs.Setting.{Seats, lists_of, cluster_of, list_at};
+ghost use Rattle.ncc_world.specs.Happening.{WorldRun};
 ghost use Rattle.ncc_world.specs.World.{AreMembers, placing_of};
 ghost use Rattle.ncc_world.specs.Parts.{IsAskedOf, KeepsNothing, LeftIn, RunsToLast, members_in, placed_at, reply_in};
-ghost use Rattle.ncc_world.specs.declared.setup.Setup.{Setup as Setups};
 
 use crate::earlier::Earlier;
-use crate::members::{Members, leader, leads};
+use crate::members::Members;
 use crate::served::ProposedAt;
 use crate::setup::Setup;
 use ncc_apply::{Shelf, Stamp, View};
@@ -143,26 +142,26 @@ fn run(
 }
 
 // Says whether a member leaves the last step to the leader.
-fn is_refused(member: u8, steps: &Steps) -> bool
-    ensures { (s : Setups) (lists : Lists) → result ≡ (last_writes (map call_of steps.now) && not ((cluster_of s).leads lists member)) }
+fn is_refused(leads: bool, steps: &Steps) -> bool
+    ensures { result ≡ (last_writes (map call_of steps.now) && not leads) }
 {
-    is_write(steps.as_slice()) && !leads(member)
+    is_write(steps.as_slice()) && !leads
 }
 
 // The rows of the last step: a member that does not lead runs none that writes.
 fn rows(
     alloc: Global,
     shelf: &Shelf,
-    member: u8,
+    leads: bool,
     earlier: Option<Earlier>,
     steps: &Steps,
 ) -> Result<Reply, Memory>
     requires from { (h : List Items) × ShelfStands shelf.now h × IsFrom h (map call_of steps.now) earlier }
-    ensures exact { IfOk result (λ r. (s : Setups) (lists : Lists) (h : List Items) → ShelfStands shelf.now h →
-        reply_in r ≡ runs ((cluster_of s).leads lists member) h (map call_of steps.now)) }
+    ensures exact { IfOk result (λ r. (h : List Items) → ShelfStands shelf.now h →
+        reply_in r ≡ runs leads h (map call_of steps.now)) }
     ensures left { IfOk result (λ r. (h : List Items) → ShelfStands shelf.now h → LeftIn h (run (map call_of steps.now)) r) }
 {
-    if is_refused(member, steps) {
+    if is_refused(leads, steps) {
         return Ok(Reply::Tells(Fact::Elsewhere, None));
     }
     run(alloc, shelf, earlier, steps)
@@ -236,23 +235,23 @@ pub(crate) fn answered(
     now: u64,
     deadline: u64,
 ) -> Result<Reply, Memory>
-    requires from { (lists : Lists) × AreMembers setup.now (members_in members.now) lists
-        × ((calls : List Calls) → question_of ask.now ≡ run calls → IsFrom (list_at lists member) calls earlier) }
-    requires there { (1 ≤ member) × (member ≤ length members.now.shelves.items) }
-    ensures exact { IfOk result (λ a. (r : ListRun) (c : Client) → AreMembers setup.now (members_in members.now) r.members →
+    requires from { (seats : Seats) × (h : List Items) × AreMembers setup.now (members_in members.now) seats h
+        × ((calls : List Calls) → question_of ask.now ≡ run calls → IsFrom (list_at (lists_of seats) member) calls earlier) }
+    requires there { (1 ≤ member) × (member ≤ length members.now.list.shelves.items) }
+    ensures exact { IfOk result (λ a. (r : WorldRun) (c : Client) → AreMembers setup.now (members_in members.now) r.members r.history →
         IsAskedOf setup.now now member deadline placing r c →
         reply_in a ≡ answers (cluster_of setup.now) r c (question_of ask.now)) }
-    ensures left { IfOk result (λ a. (lists : Lists) → AreMembers setup.now (members_in members.now) lists →
-        LeftIn (list_at lists member) (question_of ask.now) a) }
+    ensures left { IfOk result (λ a. (seats : Seats) (h : List Items) → AreMembers setup.now (members_in members.now) seats h →
+        LeftIn (list_at (lists_of seats) member) (question_of ask.now) a) }
 {
     let shelf = members.shelf(member as usize - 1);
     match ask {
         Ask::Enter { need } => Ok(enter(shelf.at(), *need, now, deadline)),
-        Ask::Run { steps } => rows(alloc, shelf, member, earlier, steps),
+        Ask::Run { steps } => rows(alloc, shelf, members.leads(member), earlier, steps),
         Ask::Leave { .. } => Ok(leave(shelf, ask.writes(), placing, now, deadline)),
         Ask::Route => Ok(Reply::Tells(
             Fact::Routed {
-                leader: leader(setup, member),
+                leader: members.leader(setup, member),
             },
             None,
         )),

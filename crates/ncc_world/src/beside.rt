@@ -42,7 +42,7 @@ impl Running {
     pub(crate) fn open_to(&mut self, alloc: Global, setup: &Setup, member: u8) -> Result<(), Memory>
         requires allowed { IsSetup setup.now }
         requires live { HasRun setup.now self.old }
-        requires there { (0 < member) × (member ≤ length self.old.members.shelves.items) }
+        requires there { (0 < member) × (member ≤ length self.old.members.list.shelves.items) }
         ensures ok { OnOk result (GoesOn setup.now self.old self.new (λ r. opened r member true)) }
         ensures count { SameCount self.old self.new }
     {

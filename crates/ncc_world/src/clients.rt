@@ -5,8 +5,8 @@ ghost use Rattle.std.specs.List.{list_any};
 ghost use Rattle.indexmap.specs.IndexMap.{values};
 ghost use Rattle.ncc_session.specs.Core.{question_of};
 ghost use Rattle.ncc_clients.specs.Run.{Client, opened};
-ghost use Rattle.ncc_world.specs.Setting.{IsSetup};
-ghost use Rattle.ncc_world.specs.Happening.{ListRun};
+ghost use Rattle.ncc_world.specs.Setting.{IsSetup, lists_of};
+ghost use Rattle.ncc_world.specs.Happening.{WorldRun};
 ghost use Rattle.ncc_world.specs.World.{AreServed, IsClient, asked_by, need_for, parked_by, place_for, placing_of};
 ghost use Rattle.ncc_world.specs.Parts.{HasClients, Lowers, MayChange, changed, clients_in, left_at, left_in, marked, numbers_in, parked_anew};
 ghost use Rattle.ncc_world.specs.declared.setup.Setup.{Setup as Setups};
@@ -184,9 +184,9 @@ impl Clients {
         requires served { HasClients self.old }
         requires there { (1 ≤ member) × (member ≤ length self.old.live.items) }
         ensures more { OnOk result (length (values self.new.table) ≡ length (values self.old.table) + 1) }
-        ensures ok { OnOk result ((r : ListRun) → AreServed setup.now (length r.members) (clients_in self.old) r.clients →
-            now ≡ r.now → (1 ≤ member) × (member ≤ length r.members) →
-            AreServed setup.now (length r.members) (clients_in self.new) (opened r member printed).clients) }
+        ensures ok { OnOk result ((r : WorldRun) → AreServed setup.now (length (lists_of r.members)) (clients_in self.old) r.clients →
+            now ≡ r.now → (1 ≤ member) × (member ≤ length (lists_of r.members)) →
+            AreServed setup.now (length (lists_of r.members)) (clients_in self.new) (opened r member printed).clients) }
     {
         let number = self.table.len() as u64 + 1;
         let conn = Conn::new(alloc, config(alloc, setup, number)?)?;

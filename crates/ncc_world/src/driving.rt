@@ -9,7 +9,7 @@ ghost use Rattle.ncc_driver.specs.LawsFits.{AreBytes};
 ghost use Rattle.ncc_clients.specs.Held.{Held, effect_of, waiting_on};
 ghost use Rattle.ncc_world.specs.Setting.{IsSetup, cluster_of};
 ghost use Rattle.ncc_world.specs.Events.{MayBegin};
-ghost use Rattle.ncc_world.specs.Happening.{ListRun, is_busy_at, meant};
+ghost use Rattle.ncc_world.specs.Happening.{WorldRun, is_busy_at, meant};
 ghost use Rattle.ncc_world.specs.Drivers.{IsAwake};
 ghost use Rattle.ncc_world.specs.Parts.{GoesOn, HasAll, HasDone, HasDue, HasMid, MakesOf, MovesOnce, PumpsOn, RisesOn, RunsAll, RunsDue};
 ghost use Rattle.ncc_world.specs.Parts.{RunsMid, SameCount, left_after, with_own};
@@ -68,7 +68,7 @@ impl Running {
     ) -> Result<Input, Memory>
         requires allowed { IsSetup setup.now }
         requires live { HasMid setup.now index self.old }
-        ensures ok { IfOk result (λ told. (r : ListRun) (d : OneDriver) (left : List OneAction) (pending : List ℕ) →
+        ensures ok { IfOk result (λ told. (r : WorldRun) (d : OneDriver) (left : List OneAction) (pending : List ℕ) →
             driver_at r index ≡ Some d → RunsMid setup.now index left pending self.old r →
             (Some told ≡ joined (cluster_of setup.now) (Some (OneAction.Connect address.now))) ×
             RunsMid setup.now index left pending self.new (joins_named index d r (member_named (cluster_of setup.now) address.now))) }
@@ -105,7 +105,7 @@ impl Running {
     ) -> Result<Option<Input>, Memory>
         requires allowed { IsSetup setup.now }
         requires live { HasMid setup.now index self.old }
-        ensures ok { IfOk result (λ told. (r : ListRun) (d : OneDriver) (action : OneAction) (behind : List OneAction) (pending : List ℕ) →
+        ensures ok { IfOk result (λ told. (r : WorldRun) (d : OneDriver) (action : OneAction) (behind : List OneAction) (pending : List ℕ) →
             driver_at r index ≡ Some d → RunsMid setup.now index behind pending self.old (with_own r index d action) →
             effect ≡ effect_of d action → (told ≡ joined (cluster_of setup.now) (Some action)) ×
             RunsMid setup.now index behind pending self.new (does_by (cluster_of setup.now) line index r d action)) }
@@ -142,7 +142,7 @@ impl Running {
     ) -> Result<Option<Input>, Memory>
         requires allowed { IsSetup setup.now }
         requires live { HasMid setup.now index self.old }
-        ensures ok { IfOk result (λ told. (r : ListRun) (d : OneDriver) (left : List OneAction) (pending : List ℕ) →
+        ensures ok { IfOk result (λ told. (r : WorldRun) (d : OneDriver) (left : List OneAction) (pending : List ℕ) →
             driver_at r index ≡ Some d → RunsMid setup.now index left pending self.old r →
             (told ≡ joined (cluster_of setup.now) (last_of left)) ×
             RunsMid setup.now index [] pending self.new (does_all (cluster_of setup.now) line index left r)) }
@@ -191,8 +191,8 @@ impl Running {
         requires may { MayBegin job.now }
         requires live { HasDone setup.now index self.old }
         requires all { HasAll setup.now self.old }
-        requires rests { (r : ListRun) → RunsAll setup.now self.old r → is_busy_at r (index + 1) ≡ false }
-        ensures ok { OnOk result ((r : ListRun) → RunsAll setup.now self.old r →
+        requires rests { (r : WorldRun) → RunsAll setup.now self.old r → is_busy_at r (index + 1) ≡ false }
+        ensures ok { OnOk result ((r : WorldRun) → RunsAll setup.now self.old r →
             RunsAll setup.now self.new (begins (cluster_of setup.now) line index r (meant job.now))) }
     {
         let task = task(alloc, job)?;
@@ -224,7 +224,7 @@ impl Running {
         count: u64,
     ) -> Result<(), Memory>
         requires live { HasDone setup.now index self.old }
-        ensures ok { OnOk result ((r : ListRun) → RunsAll setup.now self.old r →
+        ensures ok { OnOk result ((r : WorldRun) → RunsAll setup.now self.old r →
             RunsAll setup.now self.new (lifts (cluster_of setup.now) index r (driver_at r index) (lift_bytes count))) }
     {
         let bytes = self.drivers.lift_bytes(index, count)?;
@@ -234,7 +234,7 @@ impl Running {
     // Up to the last request that may go up, or all that waits on the link of the session at an index goes up.
     fn rise_to(&mut self, setup: &Setup, index: usize, limit: Option<u64>) -> Result<(), Memory>
         requires live { HasDone setup.now index self.old }
-        ensures ok { OnOk result ((r : ListRun) (pending : List ℕ) → RunsMid setup.now index [] pending self.old r →
+        ensures ok { OnOk result ((r : WorldRun) (pending : List ℕ) → RunsMid setup.now index [] pending self.old r →
             RunsMid setup.now index [] pending self.new (rises (cluster_of setup.now) index limit r)) }
         ensures count { SameCount self.old self.new }
     {
@@ -245,13 +245,13 @@ impl Running {
     // What was written to the link of the session at an index and has not come down, at most so many bytes of it.
     fn above(&self, alloc: Global, setup: &Setup, index: usize, count: u64) -> Result<Bytes, Memory>
         requires there { index < length self.now.drivers.list.items }
-        ensures exact { IfOk result (λ bytes. (r : ListRun) (pending : List ℕ) → RunsMid setup.now index [] pending self.now r →
+        ensures exact { IfOk result (λ bytes. (r : WorldRun) (pending : List ℕ) → RunsMid setup.now index [] pending self.now r →
             bytes ≡ take count (down_at (cluster_of setup.now) r (driver_at r index))) }
         // It ends within what a connection may write.
         ensures within { IfOk result (λ bytes. (held : Held) (link : OneLink) → slice_get self.now.drivers.list.items index ≡ Some held →
             held.link ≡ Some link → 1 ≤ length bytes → link.down + length bytes < 2 ^ 64) }
         // No more wait than can be counted.
-        ensures small { IfOk result (λ bytes. (r : ListRun) (pending : List ℕ) → RunsMid setup.now index [] pending self.now r →
+        ensures small { IfOk result (λ bytes. (r : WorldRun) (pending : List ℕ) → RunsMid setup.now index [] pending self.now r →
             length (down_at (cluster_of setup.now) r (driver_at r index)) < 2 ^ 64) }
     {
         let _setup = setup;
@@ -279,12 +279,12 @@ impl Running {
     ) -> Result<bool, Memory>
         requires allowed { IsSetup setup.now }
         requires live { HasDone setup.now index self.old }
-        ensures ok { IfOk result (λ some. (r : ListRun) → RunsAll setup.now self.old r →
+        ensures ok { IfOk result (λ some. (r : WorldRun) → RunsAll setup.now self.old r →
             AreBytes (take count (down_at (cluster_of setup.now) r (driver_at r index)))
             × (some ≡ nat_le 1 (length (take count (down_at (cluster_of setup.now) r (driver_at r index)))))
             × RunsAll setup.now self.new (falls (cluster_of setup.now) line index r (driver_at r index) (take count))) }
         // No more waited than can be counted.
-        ensures small { IfOk result (λ some. (r : ListRun) → RunsAll setup.now self.old r →
+        ensures small { IfOk result (λ some. (r : WorldRun) → RunsAll setup.now self.old r →
             length (down_at (cluster_of setup.now) r (driver_at r index)) < 2 ^ 64) }
         ensures count { SameCount self.old self.new }
     {
@@ -308,7 +308,7 @@ impl Running {
     ) -> Result<(), Memory>
         requires allowed { IsSetup setup.now }
         requires live { HasDone setup.now index self.old }
-        ensures ok { OnOk result ((r : ListRun) → RunsAll setup.now self.old r →
+        ensures ok { OnOk result ((r : WorldRun) → RunsAll setup.now self.old r →
             RunsAll setup.now self.new (cuts (cluster_of setup.now) line index r (driver_at r index))) }
     {
         let Some(conn) = self.drivers.cut(index) else {
@@ -322,7 +322,7 @@ impl Running {
     fn wake(&mut self, alloc: Global, setup: &Setup, line: u64, number: u64) -> Result<(), Memory>
         requires allowed { IsSetup setup.now }
         requires live { HasDue setup.now number self.old }
-        ensures ok { OnOk result ((r : ListRun) (d : OneDriver) (pending : List ℕ) → driver_at r (number - 1) ≡ Some d →
+        ensures ok { OnOk result ((r : WorldRun) (d : OneDriver) (pending : List ℕ) → driver_at r (number - 1) ≡ Some d →
             RunsDue setup.now (number ∷ pending) self.old r → IsAwake number pending →
             RunsDue setup.now pending self.new (woken (cluster_of setup.now) line (number - 1) r d)) }
         ensures count { SameCount self.old self.new }
@@ -335,7 +335,7 @@ impl Running {
     pub(crate) fn wake_all(&mut self, alloc: Global, setup: &Setup, line: u64) -> Result<(), Memory>
         requires allowed { IsSetup setup.now }
         requires live { HasAll setup.now self.old }
-        ensures ok { OnOk result ((r : ListRun) → RunsAll setup.now self.old r →
+        ensures ok { OnOk result ((r : WorldRun) → RunsAll setup.now self.old r →
             RunsAll setup.now self.new (wakes_all (cluster_of setup.now) line r)) }
     {
         let due = self.drivers.due(alloc, self.clock)?;
@@ -358,7 +358,7 @@ impl Running {
     ) -> Result<Option<Option<u64>>, Memory>
         requires live { HasDone setup.now index self.old }
         requires waits { (held : Held) → slice_get self.old.drivers.list.items index ≡ Some held → Some waiting ≡ waiting_on held.link }
-        ensures ok { IfOk result (λ next. (r : ListRun) → RunsAll setup.now self.old r → MovesOnce setup.now line index limit r next self.new) }
+        ensures ok { IfOk result (λ next. (r : WorldRun) → RunsAll setup.now self.old r → MovesOnce setup.now line index limit r next self.new) }
         ensures count { SameCount self.old self.new }
     {
         self.rise_to(setup, index, limit)?;
@@ -378,7 +378,7 @@ impl Running {
         requires allowed { IsSetup setup.now }
         requires live { HasDone setup.now index self.old }
         requires rests { (held : Held) → slice_get self.old.drivers.list.items index ≡ Some held → None ≡ waiting_on held.link }
-        ensures ok { IfOk result (λ next. (r : ListRun) → RunsAll setup.now self.old r → MovesOnce setup.now line index limit r next self.new) }
+        ensures ok { IfOk result (λ next. (r : WorldRun) → RunsAll setup.now self.old r → MovesOnce setup.now line index limit r next self.new) }
         ensures count { SameCount self.old self.new }
     {
         if self.fall(alloc, setup, line, index, u64::MAX)? {
@@ -400,7 +400,7 @@ impl Running {
     ) -> Result<Option<Option<u64>>, Memory>
         requires allowed { IsSetup setup.now }
         requires live { HasDone setup.now index self.old }
-        ensures ok { IfOk result (λ next. (r : ListRun) → RunsAll setup.now self.old r → MovesOnce setup.now line index limit r next self.new) }
+        ensures ok { IfOk result (λ next. (r : WorldRun) → RunsAll setup.now self.old r → MovesOnce setup.now line index limit r next self.new) }
         ensures count { SameCount self.old self.new }
     {
         match self.drivers.list[index].waiting() {
@@ -421,8 +421,8 @@ impl Running {
         requires allowed { IsSetup setup.now }
         requires live { HasDone setup.now index self.old }
         requires all { HasAll setup.now self.old }
-        ensures ok { OnOk result ((r : ListRun) → RunsAll setup.now self.old r →
-            (t : ListRun) × PumpsOn setup.now line index requests r t × RunsAll setup.now self.new t) }
+        ensures ok { OnOk result ((r : WorldRun) → RunsAll setup.now self.old r →
+            (t : WorldRun) × PumpsOn setup.now line index requests r t × RunsAll setup.now self.new t) }
     {
         let mut limit = requests;
         for _ in 0..MOST_MOVES {

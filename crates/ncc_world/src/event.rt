@@ -37,10 +37,31 @@ pub enum Event {
         key: Text,
         bookmarks: Bookmarks,
     },
-    /// A member that lags applies up to so many further entries.
+    /// A member that lags applies up to so many further entries. Over one list alone.
     Apply {
         member: u8,
         count: u64,
+    },
+    /// A core's time runs out. Over Raft alone, as are the next four.
+    Timeout {
+        member: u8,
+    },
+    /// A core's beat is due.
+    Beat {
+        member: u8,
+    },
+    /// A message that was sent comes to its member, once or again. Messages are numbered from 1, in the order of sending.
+    Deliver {
+        message: u64,
+    },
+    /// A replica asks a core for what is behind its list.
+    Pull {
+        replica: u8,
+        core: u8,
+    },
+    /// A member stops and starts again from what it has saved. Its connections end.
+    Crash {
+        member: u8,
     },
     /// A client connects to a member.
     Open {

@@ -15,6 +15,8 @@ mod event;
 mod laws;
 mod log;
 mod members;
+mod one_list;
+mod proposal;
 mod requests;
 mod running;
 mod seen;
@@ -28,8 +30,8 @@ mod world;
 pub use error::{Which, WorldError};
 pub use event::{Bookmarks, Event, Job};
 pub use laws::{
-    every_run_keeps, list_keeps_four, requests_fit, worked_events, worked_members, worked_sessions,
-    worked_waits,
+    each_kind_keeps_four, every_run_keeps, requests_fit, worked_events, worked_members,
+    worked_sessions, worked_waits,
 };
 pub use ncc_apply::{Shelf, Stamp};
 pub use ncc_clients::Told;

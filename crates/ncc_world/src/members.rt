@@ -1,174 +1,85 @@
-//! The members of a world, over one list.
+//! The members of a world.
 
-ghost use Rattle.std.specs.Prelude.{◌≡◌, ◌+◌, ◌-◌, ◌<◌, ◌≤◌, ◌++◌, ◌∷◌, [], List, length, take, slice_index_or, slice_set, IfOk, OnOk, IsTrue};
+ghost use Rattle.std.specs.Prelude.{◌≡◌, ◌<◌, ◌≤◌, List, [], length, slice_index_or, IfOk, OnOk, IsTrue};
 ghost use Rattle.ncc_tx.specs.declared.entry.Item.{Item as Items};
 ghost use Rattle.ncc_tx.specs.Items.{entry_allowed};
+ghost use Rattle.ncc_tx.specs.State.{stamps};
+ghost use Rattle.ncc_apply.specs.View.{stamp_of};
 ghost use Rattle.ncc_apply.specs.Shelf.{Stands as ShelfStands};
 ghost use Rattle.ncc_clients.specs.Members.{Cluster};
-ghost use Rattle.ncc_clients.specs.Four.{Begins};
-ghost use Rattle.ncc_world.specs.Showing.{member_seen};
-ghost use Rattle.ncc_world.specs.Setting.{IsSetup, Lists, cluster_of, list_at, nobody, lagging};
+ghost use Rattle.ncc_world.specs.Setting.{IsSetup, Seats, cluster_of, lists_of, seats_of};
+ghost use Rattle.ncc_world.specs.Happening.{lagged};
+ghost use Rattle.ncc_world.specs.Showing.{seats_seen};
+ghost use Rattle.ncc_world.specs.Spellable.{AllAllowed};
 ghost use Rattle.ncc_world.specs.World.{AreMembers};
-ghost use Rattle.ncc_world.specs.Parts.{HasLists, IsProposed, members_in};
+ghost use Rattle.ncc_world.specs.Parts.{BecomeMembers, HasSeats, IsProposed, members_in};
 ghost use Rattle.ncc_world.specs.declared.setup.Setup.{Setup as Setups};
 
-use crate::log::Log;
-use crate::seen::{MemberList, MemberSeen, Shown};
-use crate::served::ProposedAt;
+use crate::one_list::{OneList, leader, leads};
+use crate::proposal::Proposal;
+use crate::seen::MemberList;
 use crate::setup::Setup;
-use crate::taken::taken;
-use ncc_apply::{Shelf, View};
-use ncc_pack::{Memory, Sequence};
-use ncc_tx::{Entry, Item};
+use ncc_apply::{Shelf, Stamp};
+use ncc_pack::Memory;
+use ncc_tx::{Entries, Entry};
 use std::alloc::Global;
 
-/// The one list, what each member has applied of it, and what each member shows.
+/// The members of a world, however they agree: what each has applied, whether it leads, whom it knows as leader, and what proposing does.
 #[derive(Drop)]
 pub(crate) struct Members {
-    pub(crate) items: Log,
-    pub(crate) shelves: Vec<Shelf>,
-    pub(crate) seen: MemberList,
-}
-
-/// What becomes of an entry that is proposed at a member.
-#[derive(Clone, Copy, Debug, PartialEq, Eq)]
-pub(crate) enum Proposal {
-    /// The member does not lead.
-    Elsewhere,
-    /// Its log has so many entries, as many as it may have.
-    Full(u64),
-    /// It stands there.
-    Placed(ProposedAt),
-}
-
-/// Whether a member, numbered from 1, leads.
-pub(crate) fn leads(member: u8) -> bool
-    ensures leads { (s : Setups) (lists : Lists) → result ≡ (cluster_of s).leads lists member }
-{
-    member == 1
-}
-
-/// Which core a member, numbered from 1, knows as leader, 0 for nobody.
-pub(crate) fn leader(setup: &Setup, member: u8) -> u8
-    ensures leader { (lists : Lists) → result ≡ (cluster_of setup.now).leader lists member }
-{
-    if member <= setup.cores { 1 } else { 0 }
-}
-
-// What a member that has applied nothing shows.
-fn seen_new(setup: &Setup, id: u8) -> MemberSeen
-    ensures { result ≡ member_seen setup.now id [] }
-{
-    if id == 1 {
-        MemberSeen {
-            id,
-            shown: Shown::Leader,
-            term: 1,
-            at: 0,
-        }
-    } else if id <= setup.cores {
-        MemberSeen {
-            id,
-            shown: Shown::Follower,
-            term: 1,
-            at: 0,
-        }
-    } else {
-        MemberSeen {
-            id,
-            shown: Shown::Replica,
-            term: 0,
-            at: 0,
-        }
-    }
-}
-
-// A member applies one more item.
-fn apply_one(shelf: &mut Shelf, seen: &mut MemberSeen, item: &Item) -> Result<(), Memory>
-    ensures shelf { OnOk result ((h : List Items) → ShelfStands shelf.old h → ShelfStands shelf.new (h ++ item.now ∷ [])) }
-    ensures seen { OnOk result ((h : List Items) → ShelfStands shelf.old h → seen.new ≡ record seen.old { at = length h + 1 }) }
-{
-    shelf.push(item)?;
-    seen.at = shelf.at();
-    Ok(())
-}
-
-// A member applies the items of a list from one place to another.
-fn apply_to(
-    shelf: &mut Shelf,
-    seen: &mut MemberSeen,
-    items: &[Item],
-    from: u64,
-    goal: u64,
-) -> Result<(), Memory>
-    requires goal { goal ≤ length items.now }
-    requires from { from ≤ goal }
-    ensures shelf { OnOk result (ShelfStands shelf.old (take from items.now) → ShelfStands shelf.new (take goal items.now)) }
-    ensures seen { OnOk result (ShelfStands shelf.old (take from items.now) → seen.old.at ≡ from → seen.new ≡ record seen.old { at = goal }) }
-{
-    for place in from..goal {
-        apply_one(shelf, seen, &items[place as usize])?;
-    }
-    Ok(())
+    pub(crate) list: OneList,
 }
 
 impl Members {
     /// The members of a cluster. Nobody has applied anything.
     pub(crate) fn new(alloc: Global, setup: &Setup) -> Result<Members, Memory>
         requires allowed { IsSetup setup.now }
-        ensures new { IfOk result (λ m. AreMembers setup.now (members_in m) (nobody setup.now)) }
+        ensures new { IfOk result (λ m. AreMembers setup.now (members_in m) (seats_of setup.now) []) }
     {
-        let mut members = Members {
-            items: Log::new(alloc),
-            shelves: Vec::new(alloc),
-            seen: Sequence::new(alloc),
-        };
-        for index in 0..setup.cores + setup.replicas {
-            members.shelves.push(Shelf::new(alloc)?)?;
-            members.seen.push(seen_new(setup, index + 1))?;
-        }
-        Ok(members)
+        Ok(Members {
+            list: OneList::new(alloc, setup)?,
+        })
     }
 
     /// How many there are.
     pub(crate) fn count(&self) -> usize
-        ensures shelves { result ≡ length self.now.shelves.items }
-        ensures count { (s : Setups) (lists : Lists) → AreMembers s (members_in self.now) lists → result ≡ length lists }
+        ensures shelves { result ≡ length self.now.list.shelves.items }
+        ensures count { (s : Setups) (seats : Seats) (h : List Items) → AreMembers s (members_in self.now) seats h → result ≡ length (lists_of seats) }
     {
-        self.shelves.len()
+        self.list.count()
     }
 
     /// What the member at an index, from 0, shows of what it has applied.
     pub(crate) fn shelf(&self, index: usize) -> &Shelf
-        requires there { index < length self.now.shelves.items }
-        ensures stands { (s : Setups) (lists : Lists) → AreMembers s (members_in self.now) lists →
-            ShelfStands result.now (slice_index_or lists index []) }
+        requires there { index < length self.now.list.shelves.items }
+        ensures stands { (s : Setups) (seats : Seats) (h : List Items) → AreMembers s (members_in self.now) seats h →
+            ShelfStands result.now (slice_index_or (lists_of seats) index []) }
     {
-        &self.shelves[index]
+        self.list.shelf(index)
     }
 
     /// How many entries the member at an index, from 0, has applied.
     pub(crate) fn at(&self, index: usize) -> u64
-        requires there { index < length self.now.shelves.items }
-        ensures at { (s : Setups) (lists : Lists) → AreMembers s (members_in self.now) lists →
-            result ≡ length (slice_index_or lists index []) }
+        requires there { index < length self.now.list.shelves.items }
+        ensures at { (s : Setups) (seats : Seats) (h : List Items) → AreMembers s (members_in self.now) seats h →
+            result ≡ length (slice_index_or (lists_of seats) index []) }
     {
-        self.shelf(index).at()
+        self.list.at(index)
     }
 
-    // Member 1 appends an item, and applies it.
-    fn append(&mut self, item: Item) -> Result<(), Memory>
-        requires allowed { IsTrue (entry_allowed item.entry) }
-        requires lists { (s : Setups) × HasLists s self.old }
-        ensures ok { OnOk result ((s : Setups) (lists : Lists) → AreMembers s (members_in self.old) lists →
-            AreMembers s (members_in self.new) (slice_set lists 0 (list_at lists 1 ++ (item ∷ [])))) }
+    /// Whether a member, numbered from 1, leads.
+    pub(crate) fn leads(&self, member: u8) -> bool
+        ensures leads { (s : Setups) (seats : Seats) (h : List Items) → AreMembers s (members_in self.now) seats h → result ≡ (cluster_of s).leads seats member }
     {
-        let mut seen = taken(&mut self.seen);
-        let applied = apply_one(&mut self.shelves[0], &mut seen[0], &item);
-        self.seen = Sequence::from_vec(seen);
-        applied?;
-        self.items.push(item)?;
-        Ok(())
+        leads(member)
+    }
+
+    /// Which core a member, numbered from 1, knows as leader, 0 for nobody.
+    pub(crate) fn leader(&self, setup: &Setup, member: u8) -> u8
+        ensures leader { (seats : Seats) (h : List Items) → AreMembers setup.now (members_in self.now) seats h →
+            result ≡ (cluster_of setup.now).leader seats member }
+    {
+        leader(setup, member)
     }
 
     /// What becomes of an entry that is proposed at a member, numbered from 1.
@@ -179,49 +90,43 @@ impl Members {
         entry: &Entry,
     ) -> Result<Proposal, Memory>
         requires allowed { IsTrue (entry_allowed entry.now) }
-        requires lists { HasLists setup.now self.old }
-        ensures ok { IfOk result (λ p. (lists : Lists) → AreMembers setup.now (members_in self.old) lists →
-            IsProposed setup.now lists ((cluster_of setup.now).propose lists member entry.now) p (members_in self.new)) }
-        ensures only_grows { IfOk result (λ p. Begins self.old.items self.new.items) }
+        requires seats { HasSeats setup.now self.old }
+        ensures ok { IfOk result (λ p. (seats : Seats) (h : List Items) → AreMembers setup.now (members_in self.old) seats h →
+            IsProposed setup.now seats h ((cluster_of setup.now).propose seats member entry.now) p (members_in self.new)) }
     {
-        if !leads(member) {
-            return Ok(Proposal::Elsewhere);
-        }
-        let entries = self.items.len() as u64;
-        if setup.limit <= entries {
-            return Ok(Proposal::Full(entries));
-        }
-        self.append(Item {
-            term: 1,
-            entry: entry.copy()?,
-        })?;
-        Ok(Proposal::Placed(ProposedAt {
-            place: entries + 1,
-            term: 1,
-        }))
+        self.list.propose(setup, member, entry)
     }
 
     /// A member, numbered from 1, applies up to so many further entries of the list.
     pub(crate) fn apply(&mut self, member: u8, count: u64) -> Result<(), Memory>
-        requires there { (1 ≤ member) × (member ≤ length self.old.shelves.items) }
-        requires lists { (s : Setups) × HasLists s self.old }
-        ensures ok { OnOk result ((s : Setups) (lists : Lists) → AreMembers s (members_in self.old) lists → 1 < member →
-            AreMembers s (members_in self.new) (lagging lists member count)) }
-        ensures same { OnOk result (self.new.items ≡ self.old.items) }
+        requires there { (1 < member) × (member ≤ length self.old.list.shelves.items) }
+        requires seats { (s : Setups) × HasSeats s self.old }
+        ensures ok { OnOk result ((s : Setups) (seats : Seats) (h : List Items) → AreMembers s (members_in self.old) seats h →
+            BecomeMembers s (members_in self.new) seats h (lagged seats member count)) }
     {
-        let index = member as usize - 1;
-        let from = self.at(index);
-        let goal = from.saturating_add(count).min(self.items.len() as u64);
-        let mut seen = taken(&mut self.seen);
-        let applied = apply_to(
-            &mut self.shelves[index],
-            &mut seen[index],
-            self.items.entries().as_slice(),
-            from,
-            goal,
-        );
-        self.seen = Sequence::from_vec(seen);
-        applied?;
-        Ok(())
+        self.list.apply(member, count)
+    }
+
+    /// What each shows, member 1 first.
+    pub(crate) fn seen(&self) -> &MemberList
+        ensures seen { (s : Setups) (seats : Seats) (h : List Items) → AreMembers s (members_in self.now) seats h → result.now ≡ seats_seen s seats }
+    {
+        &self.list.seen
+    }
+
+    /// The longest list that a member has applied.
+    pub(crate) fn history(&self) -> &Entries
+        ensures history { (s : Setups) (seats : Seats) (h : List Items) → AreMembers s (members_in self.now) seats h → result.now ≡ h }
+        ensures allowed { AllAllowed result.now }
+    {
+        self.list.items.entries()
+    }
+
+    /// The stamp of a place of the history. None at 0 and past the end.
+    pub(crate) fn stamp(&self, place: u64) -> Option<Stamp>
+        ensures stamp { (s : Setups) (seats : Seats) (h : List Items) → AreMembers s (members_in self.now) seats h →
+            result ≡ stamp_of place (stamps h) }
+    {
+        self.list.stamp(place)
     }
 }

@@ -6,9 +6,10 @@ ghost use Rattle.ncc_bolt.specs.Writing.{fits_request};
 ghost use Rattle.ncc_session.specs.Talk.{asked, fits_at};
 ghost use Rattle.ncc_clients.specs.Run.{Client, reply, proposes, told_to, opened, moved};
 ghost use Rattle.ncc_clients.specs.Turn.{acts, Settles};
-ghost use Rattle.ncc_world.specs.Setting.{IsSetup, cluster_of, lagging};
+ghost use Rattle.ncc_world.specs.Setting.{IsSetup, cluster_of};
 ghost use Rattle.ncc_world.specs.Events.{MayHappen};
-ghost use Rattle.ncc_world.specs.Happening.{ListRun, Happens, Steps, start_of, refusal, unless, asks, is_member, is_open_made};
+ghost use Rattle.ncc_world.specs.Happening.{WorldRun, Happens, Steps, start_of, refusal, asks, lagged, is_member, is_open_made};
+ghost use Rattle.ncc_world.specs.Rafts.{unless};
 ghost use Rattle.ncc_clients.specs.Drives.{feeds, closes_one};
 ghost use Rattle.ncc_world.specs.Earlier.{LeftFor};
 ghost use Rattle.ncc_world.specs.World.{RunsAs};
@@ -21,7 +22,8 @@ use crate::drivers::Drivers;
 use crate::earlier::Earlier;
 use crate::error::WorldError;
 use crate::event::Event;
-use crate::members::{Members, Proposal};
+use crate::members::Members;
+use crate::proposal::Proposal;
 use crate::requests::{client_bytes, get_request, put_request};
 use crate::served::{Change, question};
 use crate::setup::Setup;
@@ -77,7 +79,7 @@ impl Running {
     // The number of the first connection whose question can be answered now.
     fn first(&self, setup: &Setup) -> Option<u64>
         requires live { HasRun setup.now self.now }
-        ensures first { (r : ListRun) → RunsAs setup.now (run_in self.now) r → result ≡ first_acting setup.now r }
+        ensures first { (r : WorldRun) → RunsAs setup.now (run_in self.now) r → result ≡ first_acting setup.now r }
     {
         let mut lowest: Option<u64> = None;
         for (index, room) in self.clients.rooms.iter().enumerate() {
@@ -90,9 +92,9 @@ impl Running {
     fn take_earlier(&mut self, setup: &Setup, index: usize) -> Option<Earlier>
         requires live { HasRun setup.now self.old }
         requires there { index < length (values self.old.clients.table) }
-        ensures runs { (r : ListRun) → RunsAs setup.now (run_in self.old) r → RunsAs setup.now (run_in self.new) r }
+        ensures runs { (r : WorldRun) → RunsAs setup.now (run_in self.old) r → RunsAs setup.now (run_in self.new) r }
         ensures clients { self.new.clients ≡ self.old.clients }
-        ensures kept { (r : ListRun) → RunsAs setup.now (run_in self.old) r → RememberedAt setup.now r index result }
+        ensures kept { (r : WorldRun) → RunsAs setup.now (run_in self.old) r → RememberedAt setup.now r index result }
         ensures drivers { self.new.drivers ≡ self.old.drivers }
     {
         let _setup = setup;
@@ -107,11 +109,11 @@ impl Running {
         index: usize,
         earlier: Option<Earlier>,
     ) -> Result<Reply, Memory>
-        requires kept { (r : ListRun) × RunsAs setup.now (run_in self.now) r × RememberedAt setup.now r index earlier }
+        requires kept { (r : WorldRun) × RunsAs setup.now (run_in self.now) r × RememberedAt setup.now r index earlier }
         requires there { index < length (values self.now.clients.table) }
-        ensures exact { IfOk result (λ a. (r : ListRun) (c : Client) → RunsAs setup.now (run_in self.now) r → slice_get r.clients index ≡ Some c →
+        ensures exact { IfOk result (λ a. (r : WorldRun) (c : Client) → RunsAs setup.now (run_in self.now) r → slice_get r.clients index ≡ Some c →
             reply_in a ≡ reply (cluster_of setup.now) r c) }
-        ensures left { IfOk result (λ a. (r : ListRun) (c : Client) → RunsAs setup.now (run_in self.now) r → slice_get r.clients index ≡ Some c →
+        ensures left { IfOk result (λ a. (r : WorldRun) (c : Client) → RunsAs setup.now (run_in self.now) r → slice_get r.clients index ≡ Some c →
             LeftAt setup.now r c a) }
     {
         let served = self.clients.served(index);
@@ -144,9 +146,9 @@ impl Running {
         requires live { HasRun setup.now self.old }
         requires there { index < length (values self.old.clients.table) }
         requires fits { (v : Serveds) → slice_get (values self.old.clients.table) index ≡ Some v → IsTrue (fits_at (asked v.conn) fact) }
-        requires left { (r : ListRun) (c : Client) → RunsAs setup.now (run_in self.old) r → slice_get r.clients index ≡ Some c →
+        requires left { (r : WorldRun) (c : Client) → RunsAs setup.now (run_in self.old) r → slice_get r.clients index ≡ Some c →
             LeftFor setup.now r c fact earlier }
-        ensures ok { OnOk result ((r : ListRun) (c : Client) → RunsAs setup.now (run_in self.old) r → slice_get r.clients index ≡ Some c →
+        ensures ok { OnOk result ((r : WorldRun) (c : Client) → RunsAs setup.now (run_in self.old) r → slice_get r.clients index ≡ Some c →
             RunsAs setup.now (run_in self.new) (told_to line r index c fact)) }
         ensures lowers { OnOk result (left_in self.new.clients < left_in self.old.clients) }
         ensures drivers { self.new.drivers ≡ self.old.drivers }
@@ -168,9 +170,9 @@ impl Running {
     fn offer(&mut self, setup: &Setup, index: usize) -> Result<Proposal, Memory>
         requires live { HasRun setup.now self.old }
         requires there { index < length (values self.old.clients.table) }
-        requires asks { (r : ListRun) (c : Client) → RunsAs setup.now (run_in self.old) r → slice_get r.clients index ≡ Some c →
+        requires asks { (r : WorldRun) (c : Client) → RunsAs setup.now (run_in self.old) r → slice_get r.clients index ≡ Some c →
             reply (cluster_of setup.now) r c ≡ proposes }
-        ensures ok { IfOk result (λ p. (r : ListRun) (c : Client) → RunsAs setup.now (run_in self.old) r → slice_get r.clients index ≡ Some c →
+        ensures ok { IfOk result (λ p. (r : WorldRun) (c : Client) → RunsAs setup.now (run_in self.old) r → slice_get r.clients index ≡ Some c →
             Offered setup.now r c p self.old self.new) }
         ensures drivers { self.new.drivers ≡ self.old.drivers }
     {
@@ -193,9 +195,9 @@ impl Running {
     fn propose(&mut self, setup: &Setup, line: u64, index: usize) -> Result<(), Memory>
         requires live { HasRun setup.now self.old }
         requires there { index < length (values self.old.clients.table) }
-        requires asks { (r : ListRun) (c : Client) → RunsAs setup.now (run_in self.old) r → slice_get r.clients index ≡ Some c →
+        requires asks { (r : WorldRun) (c : Client) → RunsAs setup.now (run_in self.old) r → slice_get r.clients index ≡ Some c →
             reply (cluster_of setup.now) r c ≡ proposes }
-        ensures ok { OnOk result ((r : ListRun) (c : Client) → RunsAs setup.now (run_in self.old) r → slice_get r.clients index ≡ Some c →
+        ensures ok { OnOk result ((r : WorldRun) (c : Client) → RunsAs setup.now (run_in self.old) r → slice_get r.clients index ≡ Some c →
             DoesTo setup.now line r index c proposes (run_in self.new)) }
         ensures lowers { OnOk result (left_in self.new.clients < left_in self.old.clients) }
         ensures drivers { self.new.drivers ≡ self.old.drivers }
@@ -225,10 +227,10 @@ impl Running {
     ) -> Result<(), Memory>
         requires live { HasRun setup.now self.old }
         requires there { index < length (values self.old.clients.table) }
-        requires kept { (r : ListRun) × RunsAs setup.now (run_in self.old) r × RememberedAt setup.now r index earlier }
-        ensures ok { OnOk result ((r : ListRun) (c : Client) → RunsAs setup.now (run_in self.old) r → slice_get r.clients index ≡ Some c →
+        requires kept { (r : WorldRun) × RunsAs setup.now (run_in self.old) r × RememberedAt setup.now r index earlier }
+        ensures ok { OnOk result ((r : WorldRun) (c : Client) → RunsAs setup.now (run_in self.old) r → slice_get r.clients index ≡ Some c →
             acts (cluster_of setup.now) r c ≡ true → DoesTo setup.now line r index c (reply (cluster_of setup.now) r c) (run_in self.new)) }
-        ensures lowers { OnOk result ((r : ListRun) (c : Client) → RunsAs setup.now (run_in self.old) r → slice_get r.clients index ≡ Some c →
+        ensures lowers { OnOk result ((r : WorldRun) (c : Client) → RunsAs setup.now (run_in self.old) r → slice_get r.clients index ≡ Some c →
             acts (cluster_of setup.now) r c ≡ true → left_in self.new.clients < left_in self.old.clients) }
         ensures drivers { self.new.drivers ≡ self.old.drivers }
     {
@@ -249,9 +251,9 @@ impl Running {
     ) -> Result<(), Memory>
         requires live { HasRun setup.now self.old }
         requires there { index < length (values self.old.clients.table) }
-        ensures ok { OnOk result ((r : ListRun) (c : Client) → RunsAs setup.now (run_in self.old) r → slice_get r.clients index ≡ Some c →
+        ensures ok { OnOk result ((r : WorldRun) (c : Client) → RunsAs setup.now (run_in self.old) r → slice_get r.clients index ≡ Some c →
             acts (cluster_of setup.now) r c ≡ true → DoesTo setup.now line r index c (reply (cluster_of setup.now) r c) (run_in self.new)) }
-        ensures lowers { OnOk result ((r : ListRun) (c : Client) → RunsAs setup.now (run_in self.old) r → slice_get r.clients index ≡ Some c →
+        ensures lowers { OnOk result ((r : WorldRun) (c : Client) → RunsAs setup.now (run_in self.old) r → slice_get r.clients index ≡ Some c →
             acts (cluster_of setup.now) r c ≡ true → left_in self.new.clients < left_in self.old.clients) }
         ensures drivers { self.new.drivers ≡ self.old.drivers }
     {
@@ -262,7 +264,7 @@ impl Running {
     // One turn: the first connection whose question can be answered is answered. False where there is none.
     fn turn(&mut self, alloc: Global, setup: &Setup, line: u64) -> Result<bool, Memory>
         requires live { HasRun setup.now self.old }
-        ensures ok { IfOk result (λ more. (r : ListRun) → RunsAs setup.now (run_in self.old) r → TurnBy setup.now line r (run_in self.new) more) }
+        ensures ok { IfOk result (λ more. (r : WorldRun) → RunsAs setup.now (run_in self.old) r → TurnBy setup.now line r (run_in self.new) more) }
         ensures lowers { IfOk result (λ more. IsTrue more → left_in self.new.clients < left_in self.old.clients) }
         ensures drivers { self.new.drivers ≡ self.old.drivers }
     {
@@ -276,8 +278,8 @@ impl Running {
     // Turn after turn, until nobody can be answered. Each lowers what is left to do.
     pub(crate) fn settle(&mut self, alloc: Global, setup: &Setup, line: u64) -> Result<(), Memory>
         requires live { HasRun setup.now self.old }
-        ensures ok { OnOk result ((r : ListRun) → RunsAs setup.now (run_in self.old) r →
-            (t : ListRun) × Settles (cluster_of setup.now) line r t × RunsAs setup.now (run_in self.new) t) }
+        ensures ok { OnOk result ((r : WorldRun) → RunsAs setup.now (run_in self.old) r →
+            (t : WorldRun) × Settles (cluster_of setup.now) line r t × RunsAs setup.now (run_in self.new) t) }
         ensures drivers { self.new.drivers ≡ self.old.drivers }
     {
         'turns: while self.turn(alloc, setup, line)? {}
@@ -288,7 +290,7 @@ impl Running {
 impl Running {
     // There is such a member.
     fn is_member(&self, setup: &Setup, member: u8) -> bool
-        ensures exact { (r : ListRun) → RunsAs setup.now (run_in self.now) r → result ≡ is_member r member }
+        ensures exact { (r : WorldRun) → RunsAs setup.now (run_in self.now) r → result ≡ is_member r member }
     {
         let _setup = setup;
         1 <= member && member as usize <= self.members.count()
@@ -296,7 +298,7 @@ impl Running {
 
     // Some open made a connection of this number.
     fn is_open_made(&self, setup: &Setup, conn: u64) -> bool
-        ensures exact { (r : ListRun) → RunsAll setup.now self.now r → result ≡ is_open_made r conn }
+        ensures exact { (r : WorldRun) → RunsAll setup.now self.now r → result ≡ is_open_made r conn }
     {
         let _setup = setup;
         if conn == 0 || self.clients.seen.len() as u64 <= conn - 1 {
@@ -307,7 +309,7 @@ impl Running {
 
     /// Why an event is refused, if it is.
     pub(crate) fn refusal(&self, setup: &Setup, event: &Event) -> Option<WorldError>
-        ensures exact { (r : ListRun) → RunsAll setup.now self.now r → result ≡ refusal r event.now }
+        ensures exact { (r : WorldRun) → RunsAll setup.now self.now r → result ≡ refusal setup.now r event.now }
     {
         match event {
             Event::Time { to } => unless(self.clock <= *to, WorldError::BackInTime),
@@ -326,6 +328,11 @@ impl Running {
                     None
                 }
             }
+            Event::Timeout { .. } => Some(WorldError::WrongWorld),
+            Event::Beat { .. } => Some(WorldError::WrongWorld),
+            Event::Deliver { .. } => Some(WorldError::WrongWorld),
+            Event::Pull { .. } => Some(WorldError::WrongWorld),
+            Event::Crash { .. } => Some(WorldError::WrongWorld),
             Event::Open { member } => unless(self.is_member(setup, *member), WorldError::NoMember),
             Event::Bytes { conn, .. } => {
                 unless(self.is_open_made(setup, *conn), WorldError::NoConn)
@@ -348,7 +355,7 @@ impl Running {
     pub(crate) fn feed(&mut self, setup: &Setup, index: usize, piece: Bytes) -> Result<(), Memory>
         requires live { HasRun setup.now self.old }
         requires there { index < length (values self.old.clients.table) }
-        ensures ok { OnOk result ((r : ListRun) → RunsAs setup.now (run_in self.old) r →
+        ensures ok { OnOk result ((r : WorldRun) → RunsAs setup.now (run_in self.old) r →
             RunsAs setup.now (run_in self.new) (feeds (cluster_of setup.now) r index piece)) }
         ensures drivers { self.new.drivers ≡ self.old.drivers }
     {
@@ -365,7 +372,7 @@ impl Running {
     pub(crate) fn close(&mut self, setup: &Setup, index: usize) -> Result<(), Memory>
         requires live { HasRun setup.now self.old }
         requires there { index < length (values self.old.clients.table) }
-        ensures ok { OnOk result ((r : ListRun) → RunsAs setup.now (run_in self.old) r →
+        ensures ok { OnOk result ((r : WorldRun) → RunsAs setup.now (run_in self.old) r →
             RunsAs setup.now (run_in self.new) (closes_one r index (slice_get r.clients index))) }
         ensures drivers { self.new.drivers ≡ self.old.drivers }
     {
@@ -387,8 +394,8 @@ impl Running {
     ) -> Result<(), Memory>
         requires allowed { IsSetup setup.now }
         requires live { HasRun setup.now self.old }
-        requires there { (r : ListRun) → RunsAs setup.now (run_in self.old) r → is_member r member ≡ true }
-        ensures ok { OnOk result ((r : ListRun) → RunsAs setup.now (run_in self.old) r →
+        requires there { (r : WorldRun) → RunsAs setup.now (run_in self.old) r → is_member r member ≡ true }
+        ensures ok { OnOk result ((r : WorldRun) → RunsAs setup.now (run_in self.old) r →
             RunsAs setup.now (run_in self.new) (opened r member printed)) }
         ensures more { OnOk result (length (values self.new.clients.table) ≡ length (values self.old.clients.table) + 1) }
         ensures drivers { self.new.drivers ≡ self.old.drivers }
@@ -410,8 +417,8 @@ impl Running {
         requires fits { IsTrue (fits_request request.now) }
         requires allowed { IsSetup setup.now }
         requires live { HasRun setup.now self.old }
-        requires there { (r : ListRun) → RunsAs setup.now (run_in self.old) r → is_member r member ≡ true }
-        ensures ok { OnOk result ((r : ListRun) → RunsAs setup.now (run_in self.old) r →
+        requires there { (r : WorldRun) → RunsAs setup.now (run_in self.old) r → is_member r member ≡ true }
+        ensures ok { OnOk result ((r : WorldRun) → RunsAs setup.now (run_in self.old) r →
             RunsAs setup.now (run_in self.new) (asks setup.now r member request.now)) }
         ensures drivers { self.new.drivers ≡ self.old.drivers }
     {
@@ -424,9 +431,9 @@ impl Running {
     // A member that lags applies up to so many further entries.
     fn apply(&mut self, setup: &Setup, member: u8, count: u64) -> Result<(), Memory>
         requires live { HasRun setup.now self.old }
-        requires there { (r : ListRun) → RunsAs setup.now (run_in self.old) r → (is_member r member ≡ true) × (member ≢ 1) }
-        ensures ok { OnOk result ((r : ListRun) → RunsAs setup.now (run_in self.old) r →
-            RunsAs setup.now (run_in self.new) (moved (cluster_of setup.now) r (lagging r.members member count))) }
+        requires there { (r : WorldRun) → RunsAs setup.now (run_in self.old) r → (is_member r member ≡ true) × (member ≢ 1) }
+        ensures ok { OnOk result ((r : WorldRun) → RunsAs setup.now (run_in self.old) r →
+            RunsAs setup.now (run_in self.new) (moved (cluster_of setup.now) r (lagged r.members member count))) }
         ensures drivers { self.new.drivers ≡ self.old.drivers }
     {
         let _setup = setup;
@@ -439,9 +446,9 @@ impl Running {
         requires allowed { IsSetup setup.now }
         requires live { HasAll setup.now self.old }
         requires may_happen { MayHappen setup.now.cluster event.now }
-        requires taken { (r : ListRun) → RunsAll setup.now self.old r → refusal r event.now ≡ None }
-        ensures ok { OnOk result ((r : ListRun) → RunsAll setup.now self.old r →
-            (t : ListRun) × Steps setup.now line event.now r t × RunsAll setup.now self.new t) }
+        requires taken { (r : WorldRun) → RunsAll setup.now self.old r → refusal setup.now r event.now ≡ None }
+        ensures ok { OnOk result ((r : WorldRun) → RunsAll setup.now self.old r →
+            (t : WorldRun) × Steps setup.now line event.now r t × RunsAll setup.now self.new t) }
     {
         match event {
             Event::Time { to } => {
@@ -466,6 +473,11 @@ impl Running {
                 self.ask(alloc, setup, *member, &request)
             }
             Event::Apply { member, count } => self.apply(setup, *member, *count),
+            Event::Timeout { .. } => unreachable!(),
+            Event::Beat { .. } => unreachable!(),
+            Event::Deliver { .. } => unreachable!(),
+            Event::Pull { .. } => unreachable!(),
+            Event::Crash { .. } => unreachable!(),
             Event::Open { member } => self.open(alloc, setup, *member, true),
             Event::Bytes { conn, bytes } => {
                 let piece = bytes.copy()?;
@@ -501,9 +513,9 @@ impl Running {
         requires allowed { IsSetup setup.now }
         requires live { HasAll setup.now self.old }
         requires may_happen { MayHappen setup.now.cluster event.now }
-        requires taken { (r : ListRun) → RunsAll setup.now self.old r → refusal r event.now ≡ None }
-        ensures ok { OnOk result ((r : ListRun) → RunsAll setup.now self.old r →
-            (t : ListRun) × Happens setup.now line event.now r t × RunsAll setup.now self.new t) }
+        requires taken { (r : WorldRun) → RunsAll setup.now self.old r → refusal setup.now r event.now ≡ None }
+        ensures ok { OnOk result ((r : WorldRun) → RunsAll setup.now self.old r →
+            (t : WorldRun) × Happens setup.now line event.now r t × RunsAll setup.now self.new t) }
     {
         self.step(alloc, setup, line, event)?;
         self.settle_all(alloc, setup, line)

@@ -6,10 +6,10 @@ ghost use Rattle.ncc_apply.specs.View.{stamp_of};
 ghost use Rattle.ncc_apply.specs.Shelf.{Stands as ShelfStands};
 ghost use Rattle.ncc_world.specs.declared.error.WorldError.{WorldError as WorldErrors};
 ghost use Rattle.ncc_world.specs.declared.error.Which.{Which as Limits};
-ghost use Rattle.ncc_world.specs.Setting.{IsSetup, list_at};
+ghost use Rattle.ncc_world.specs.Setting.{IsSetup, lists_of, list_at};
 ghost use Rattle.ncc_world.specs.Events.{MayHappen};
 ghost use Rattle.ncc_world.specs.Spellable.{AllAllowed, AllFit};
-ghost use Rattle.ncc_world.specs.Happening.{ListRun, Happens, start_of, refusal, is_member};
+ghost use Rattle.ncc_world.specs.Happening.{WorldRun, Happens, start_of, refusal, is_member};
 ghost use Rattle.ncc_world.specs.Showing.{members_of, conns_of, works_of};
 ghost use Rattle.ncc_world.specs.World.{Stands, past, spent, is_refusal};
 
@@ -18,7 +18,7 @@ use crate::event::Event;
 use crate::running::Running;
 use crate::seen::{ConnList, MemberList, ToldList, WorkList};
 use crate::setup::Setup;
-use ncc_apply::{Shelf, Stamp, View};
+use ncc_apply::{Shelf, Stamp};
 use ncc_pack::Memory;
 use ncc_tx::Entries;
 use std::alloc::Global;
@@ -79,10 +79,10 @@ impl World {
     /// was wanting, or a limit would have been passed, every event answers so.
     pub fn event(&mut self, line: u64, event: &Event) -> Result<(), WorldError>
         requires may_happen { MayHappen self.old.setup.cluster event.now }
-        ensures ok { (r : ListRun) → Stands self.old r → OnOk result ((t : ListRun) × Happens self.old.setup line event.now r t × Stands self.new t) }
-        ensures refused { (r : ListRun) (e : WorldErrors) → Stands self.old r → IsErrOf result e → IsTrue (is_refusal e) →
-            (refusal r event.now ≡ Some e) × (self.new ≡ self.old) }
-        ensures refuses { (r : ListRun) (e : WorldErrors) → Stands self.old r → refusal r event.now ≡ Some e → IsErrOf result e }
+        ensures ok { (r : WorldRun) → Stands self.old r → OnOk result ((t : WorldRun) × Happens self.old.setup line event.now r t × Stands self.new t) }
+        ensures refused { (r : WorldRun) (e : WorldErrors) → Stands self.old r → IsErrOf result e → IsTrue (is_refusal e) →
+            (refusal self.old.setup r event.now ≡ Some e) × (self.new ≡ self.old) }
+        ensures refuses { (r : WorldRun) (e : WorldErrors) → Stands self.old r → refusal self.old.setup r event.now ≡ Some e → IsErrOf result e }
         ensures memory { IsErrOf result WorldError.Memory → self.new.standing ≡ spent }
         ensures limit { (which : Limits) → IsErrOf result (WorldError.Limit which) → (self.old.standing ≡ past which) × (self.new ≡ self.old) }
         ensures stays_spent { self.old.standing ≡ spent → IsErrOf result WorldError.Memory }
@@ -116,14 +116,14 @@ impl World {
 
     /// The moment that the clock shows, in milliseconds. It takes no memory.
     pub fn now(&self) -> u64
-        ensures now { (r : ListRun) → Stands self.now r → result ≡ r.now }
+        ensures now { (r : WorldRun) → Stands self.now r → result ≡ r.now }
     {
         self.run.clock
     }
 
     /// The facts that were told, the first first. It takes no memory.
     pub fn told(&self) -> &ToldList
-        ensures told { (r : ListRun) → Stands self.now r → result.now ≡ r.told }
+        ensures told { (r : WorldRun) → Stands self.now r → result.now ≡ r.told }
         // Their rows keep the limits of one step, so that they have a spelling, however the events went.
         ensures fit { AllFit result.now }
     {
@@ -132,38 +132,38 @@ impl World {
 
     /// What each member shows, member 1 first. It takes no memory.
     pub fn members(&self) -> &MemberList
-        ensures members { (r : ListRun) → Stands self.now r → result.now ≡ members_of self.now.setup r }
+        ensures members { (r : WorldRun) → Stands self.now r → result.now ≡ members_of self.now.setup r }
     {
-        &self.run.members.seen
+        self.run.members.seen()
     }
 
     /// What each connection shows, connection 1 first. It takes no memory.
     pub fn conns(&self) -> &ConnList
-        ensures conns { (r : ListRun) → Stands self.now r → result.now ≡ conns_of self.now.setup r }
+        ensures conns { (r : WorldRun) → Stands self.now r → result.now ≡ conns_of self.now.setup r }
     {
         &self.run.clients.seen
     }
 
     /// The works that have ended, the first first. It takes no memory.
     pub fn works(&self) -> &WorkList
-        ensures works { (r : ListRun) → Stands self.now r → result.now ≡ works_of r }
+        ensures works { (r : WorldRun) → Stands self.now r → result.now ≡ works_of r }
     {
         self.run.drivers.works()
     }
 
     /// The history: the longest list that a member has applied. It takes no memory.
     pub fn history(&self) -> &Entries
-        ensures history { (r : ListRun) → Stands self.now r → result.now ≡ r.history }
+        ensures history { (r : WorldRun) → Stands self.now r → result.now ≡ r.history }
         // Each entry has a spelling, of at most 1,048,576 bytes, however the events went.
         ensures allowed { AllAllowed result.now }
     {
-        self.run.members.items.entries()
+        self.run.members.history()
     }
 
     /// What a member shows of what it has applied; none where there is no such member. It takes no memory.
     pub fn shelf(&self, member: u8) -> Option<&Shelf>
-        ensures some { (r : ListRun) → Stands self.now r → IfSome result (λ shelf. ShelfStands shelf.now (list_at r.members member)) }
-        ensures there { (r : ListRun) → Stands self.now r → (IsSome result ↔ IsTrue (is_member r member)) }
+        ensures some { (r : WorldRun) → Stands self.now r → IfSome result (λ shelf. ShelfStands shelf.now (list_at (lists_of r.members) member)) }
+        ensures there { (r : WorldRun) → Stands self.now r → (IsSome result ↔ IsTrue (is_member r member)) }
     {
         if member == 0 || member as usize > self.run.members.count() {
             return None;
@@ -174,11 +174,8 @@ impl World {
     /// The stamp of a place of the history: the term of its item, and whether its entry is valid there. None at 0 and past the end.
     /// It takes no memory.
     pub fn stamp(&self, place: u64) -> Option<Stamp>
-        ensures stamp { (r : ListRun) → Stands self.now r → result ≡ stamp_of place (stamps r.history) }
+        ensures stamp { (r : WorldRun) → Stands self.now r → result ≡ stamp_of place (stamps r.history) }
     {
-        match self.shelf(1) {
-            Some(shelf) => shelf.stamp(place),
-            None => None,
-        }
+        self.run.members.stamp(place)
     }
 }

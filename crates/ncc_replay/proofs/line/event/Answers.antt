@@ -76,3 +76,33 @@ returns-in-Cut-clause-bad c = λ cause h.
     subst (λ v. AreBad c.args.cluster (verb_word v ∷ words_in c.args.rest) cause) (sym c.in-Cut.is)
     (none_bad c.args.cluster (codes "cut" ∷ words_in c.args.rest) c.cut_link.result c.ok_or-in-Cut.result cause c.ok_or-in-Cut.ensures.value
     c.cut_link.ensures.none h)
+
+pub returns-in-Timeout-clause-bad : goal.returns-in-Timeout-clause-bad
+returns-in-Timeout-clause-bad c = λ cause h.
+    subst (λ v. AreBad c.args.cluster (verb_word v ∷ words_in c.args.rest) cause) (sym c.in-Timeout.is)
+    (none_bad c.args.cluster (codes "timeout" ∷ words_in c.args.rest) c.timeout.result c.ok_or-in-Timeout.result cause c.ok_or-in-Timeout.ensures.value
+    c.timeout.ensures.none h)
+
+pub returns-in-Beat-clause-bad : goal.returns-in-Beat-clause-bad
+returns-in-Beat-clause-bad c = λ cause h.
+    subst (λ v. AreBad c.args.cluster (verb_word v ∷ words_in c.args.rest) cause) (sym c.in-Beat.is)
+    (none_bad c.args.cluster (codes "beat" ∷ words_in c.args.rest) c.beat.result c.ok_or-in-Beat.result cause c.ok_or-in-Beat.ensures.value
+    c.beat.ensures.none h)
+
+pub returns-in-Deliver-clause-bad : goal.returns-in-Deliver-clause-bad
+returns-in-Deliver-clause-bad c = λ cause h.
+    subst (λ v. AreBad c.args.cluster (verb_word v ∷ words_in c.args.rest) cause) (sym c.in-Deliver.is)
+    (none_bad c.args.cluster (codes "deliver" ∷ words_in c.args.rest) c.deliver.result c.ok_or-in-Deliver.result cause c.ok_or-in-Deliver.ensures.value
+    c.deliver.ensures.none h)
+
+pub returns-in-Pull-clause-bad : goal.returns-in-Pull-clause-bad
+returns-in-Pull-clause-bad c = λ cause h.
+    subst (λ v. AreBad c.args.cluster (verb_word v ∷ words_in c.args.rest) cause) (sym c.in-Pull.is)
+    (none_bad c.args.cluster (codes "pull" ∷ words_in c.args.rest) c.pull.result c.ok_or-in-Pull.result cause c.ok_or-in-Pull.ensures.value
+    c.pull.ensures.none h)
+
+pub returns-in-Crash-clause-bad : goal.returns-in-Crash-clause-bad
+returns-in-Crash-clause-bad c = λ cause h.
+    subst (λ v. AreBad c.args.cluster (verb_word v ∷ words_in c.args.rest) cause) (sym c.in-Crash.is)
+    (none_bad c.args.cluster (codes "crash" ∷ words_in c.args.rest) c.crash.result c.ok_or-in-Crash.result cause c.ok_or-in-Crash.ensures.value
+    c.crash.ensures.none h)

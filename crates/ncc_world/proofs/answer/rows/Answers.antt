@@ -8,14 +8,14 @@ use Rattle.ncc_world.proofs.answer.rows.Goals as goal
 
 pub returns-then-is_refused : goal.returns-then-is_refused
 returns-then-is_refused c = record {
-  exact = λ s lists h k.
+  exact = λ h k.
       ap (λ (b : Bool). cond b (tells Elsewhere) (tells (ran (length h) (exec (state h) (map call_of c.args.steps.now)))))
-      (sym c.if-is_refused.true ∙ c.is_refused.ensures s lists);
+      (sym c.if-is_refused.true ∙ c.is_refused.ensures);
   left = λ h k. tt;
 }
 
 pub returns-clause-exact : goal.returns-clause-exact
-returns-clause-exact c = IfOk-weaker c.run.result _ _ (λ a f s lists h k.
+returns-clause-exact c = IfOk-weaker c.run.result _ _ (λ a f h k.
     f h k
     ∙ ap (λ (b : Bool). cond b (tells Elsewhere) (tells (ran (length h) (exec (state h) (map call_of c.args.steps.now)))))
-    (sym c.if-is_refused.false ∙ c.is_refused.ensures s lists)) c.run.ensures.exact
+    (sym c.if-is_refused.false ∙ c.is_refused.ensures)) c.run.ensures.exact

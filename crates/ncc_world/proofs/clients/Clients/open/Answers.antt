@@ -9,6 +9,7 @@ use Rattle.indexmap.specs.IndexMap.{get, values}
 use Rattle.indexmap.proofs.CallerLemmas.{insert_entry-new}
 use Rattle.ncc_session.specs.declared.config.ConnConfig.{ConnConfig}
 use Rattle.ncc_session.specs.Talk.{Stands as TalkStands}
+use Rattle.ncc_world.specs.Setting.{lists_of}
 use Rattle.ncc_world.specs.declared.seen.ConnSeen.{ConnSeen}
 use Rattle.ncc_world.specs.declared.served.Served.{Served}
 use Rattle.ncc_world.specs.World.{AreServed}
@@ -50,7 +51,7 @@ returns-clause-ok c = on_ok_weaker c.push.result (λ e r are now_is bounds.
     let was = c.index_mut-live.result.now in
     let within : at < length lives = omega (arith, bounds.0, bounds.1, are.live_count, length-map lives set_keys) in
     let now_live = slice_set (numbers_in lives) at (set_keys c.mark.new.live) in
-    let one = opened_one c.args.setup.now (length r.members) k r.clients v n c.args.member c.args.now c.args.printed
+    let one = opened_one c.args.setup.now (length (lists_of r.members)) k r.clients v n c.args.member c.args.now c.args.printed
     (set_keys c.mark.new.live) (set_keys was) are numbered bounds.0 bounds.1 new
     (map_at set_keys lives at was within c.index_mut-live.ensures.value) c.in_ok-mark.ensures.ok in
     let seen : c.push.new.self ≡ k.seen ++ (shown n c.args.member c.args.printed ∷ []) =
@@ -64,30 +65,30 @@ returns-clause-ok c = on_ok_weaker c.push.result (λ e r are now_is bounds.
     } ∷ [])) c.new-2.ensures.empty in
     let keys_are : keys_of c.insert.new.self.entries ≡ k.numbers ++ (n ∷ []) = ap keys_of es ∙ keys_more m.entries n v in
     let values_are : values_of c.insert.new.self.entries ≡ k.table ++ (v ∷ []) = ap values_of es ∙ values_more m.entries n v in
-    subst (λ (x : List (List ℕ)). AreServed c.args.setup.now (length r.members) (record {
+    subst (λ (x : List (List ℕ)). AreServed c.args.setup.now (length (lists_of r.members)) (record {
       numbers = keys_of c.insert.new.self.entries;
       table = values_of c.insert.new.self.entries;
       seen = c.push.new.self;
       rooms = k.rooms;
       live = x;
     }) (r.clients ++ (fresh (length r.clients + 1) c.args.member r.now c.args.printed ∷ []))) (sym (map_set set_keys lives at c.mark.new.live))
-    (subst (λ (x : List ℕ). AreServed c.args.setup.now (length r.members)
+    (subst (λ (x : List ℕ). AreServed c.args.setup.now (length (lists_of r.members))
     (record { numbers = x; table = values_of c.insert.new.self.entries; seen = c.push.new.self; rooms = k.rooms; live = now_live })
     (r.clients ++ (fresh (length r.clients + 1) c.args.member r.now c.args.printed ∷ []))) (sym keys_are)
-    (subst (λ (x : List Served). AreServed c.args.setup.now (length r.members)
+    (subst (λ (x : List Served). AreServed c.args.setup.now (length (lists_of r.members))
     (record { numbers = k.numbers ++ (n ∷ []); table = x; seen = c.push.new.self; rooms = k.rooms; live = now_live })
     (r.clients ++ (fresh (length r.clients + 1) c.args.member r.now c.args.printed ∷ []))) (sym values_are)
-    (subst (λ (x : List ConnSeen). AreServed c.args.setup.now (length r.members)
+    (subst (λ (x : List ConnSeen). AreServed c.args.setup.now (length (lists_of r.members))
     (record { numbers = k.numbers ++ (n ∷ []); table = k.table ++ (v ∷ []); seen = x; rooms = k.rooms; live = now_live })
     (r.clients ++ (fresh (length r.clients + 1) c.args.member r.now c.args.printed ∷ []))) (sym seen)
-    (subst (λ (i : ℕ). AreServed c.args.setup.now (length r.members) (record {
+    (subst (λ (i : ℕ). AreServed c.args.setup.now (length (lists_of r.members)) (record {
       numbers = k.numbers ++ (n ∷ []);
       table = k.table ++ (v ∷ []);
       seen = k.seen ++ (shown n c.args.member c.args.printed ∷ []);
       rooms = k.rooms;
       live = now_live;
     }) (r.clients ++ (fresh i c.args.member r.now c.args.printed ∷ []))) numbered
-    (subst (λ (i : ℕ). AreServed c.args.setup.now (length r.members) (record {
+    (subst (λ (i : ℕ). AreServed c.args.setup.now (length (lists_of r.members)) (record {
       numbers = k.numbers ++ (n ∷ []);
       table = k.table ++ (v ∷ []);
       seen = k.seen ++ (shown n c.args.member c.args.printed ∷ []);

@@ -1,7 +1,18 @@
-use Rattle.ncc_world.proofs.Listing.{shelf_at}
+use Rattle.std.proofs.Common.{List, [], get_or}
+use Rattle.ncc_tx.specs.declared.entry.Item.{Item}
+use Rattle.ncc_apply.specs.Shelf.{Stands}
+use Rattle.ncc_world.specs.declared.setup.Setup.{Setup}
+use Rattle.ncc_world.specs.Setting.{Seats, over_list, over_raft, lists_of}
+use Rattle.ncc_world.specs.World.{AreMembers}
+use Rattle.ncc_world.specs.Parts.{members_in}
 use Rattle.ncc_world.proofs.members.Members.shelf.Goals as goal
 
 pub returns : goal.returns
-returns c = record {
-  stands = λ s lists k. (shelf_at _ _ lists c.args.index c.index.result.now k.shelves c.requires.there c.index.ensures).stands;
-}
+returns c = record { stands = go } where
+  none : List Item
+  none = []
+
+  go : (s : Setup) (seats : Seats) (h : List Item) → AreMembers s (members_in c.args.self.now) seats h
+      → Stands c.shelf.result.now (get_or (lists_of seats) c.args.index none)
+  go s (over_list lists) h k = c.shelf.ensures.stands s lists k.0
+  go s (over_raft fleet) h k = absurd k

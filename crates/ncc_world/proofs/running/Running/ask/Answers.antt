@@ -5,7 +5,7 @@ use Rattle.ncc_clients.specs.Run.{opened}
 use Rattle.ncc_world.specs.Requests.{client_bytes}
 use Rattle.ncc_clients.specs.Drives.{feeds}
 use Rattle.ncc_world.specs.Setting.{cluster_of}
-use Rattle.ncc_world.specs.Happening.{ListRun}
+use Rattle.ncc_world.specs.Happening.{WorldRun}
 use Rattle.ncc_world.specs.World.{RunsAs}
 use Rattle.ncc_world.specs.Parts.{run_in}
 use Rattle.ncc_world.proofs.Turning.{counted}
@@ -19,7 +19,7 @@ pub returns : goal.returns
 returns c = record {
   ok = on_ok_weaker c.feed.result (λ f r k.
       let s = c.args.setup.now in
-      let o : ListRun = opened r c.args.member false in
+      let o : WorldRun = opened r c.args.member false in
       let n = counted c.args.setup.now (run_in c.args.self.now) r k in
       let index : c.len-index.result ≡ length r.clients =
       omega (arith, c.len-index.ensures.len, n.table, length-values_of c.args.self.now.clients.table.entries) in

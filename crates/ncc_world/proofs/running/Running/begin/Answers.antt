@@ -4,7 +4,7 @@ use Rattle.ncc_driver.specs.Talk.{begun}
 use Rattle.ncc_clients.specs.Task.{job_of}
 use Rattle.ncc_clients.specs.Links.{Driver}
 use Rattle.ncc_clients.specs.Drives.{knows, with_driver}
-use Rattle.ncc_world.specs.Happening.{ListRun, meant}
+use Rattle.ncc_world.specs.Happening.{WorldRun, meant}
 use Rattle.ncc_world.specs.Drivers.{AreAtWork}
 use Rattle.ncc_world.specs.Parts.{RunsMid, drivers_in}
 use Rattle.ncc_world.proofs.Doing.{all_at, at_all, there_in, within_list}
@@ -59,6 +59,6 @@ returns c = record {
       c.in_ok-task.ensures.exact (λ y. c.in_ok-begin.ensures.ok s r.driving [] x.0 x.1 y) k in
       let z = f (with_driver r at e) e [] (there_now r at x.0 e x.1) m in
       at_all s at c.hear.new.self _
-      (subst (λ (t : ListRun). RunsMid s at [] [] c.hear.new.self t) (begins_so s c.args.line at r x.0 (meant c.args.job.now) x.1) z))
+      (subst (λ (t : WorldRun). RunsMid s at [] [] c.hear.new.self t) (begins_so s c.args.line at r x.0 (meant c.args.job.now) x.1) z))
       c.hear.ensures.ok;
 }

@@ -1,7 +1,7 @@
 use Rattle.std.proofs.Common.{◌∙◌, sym, refl, subst, length, true}
-use Rattle.ncc_world.specs.Happening.{ListRun}
+use Rattle.ncc_world.specs.Happening.{WorldRun}
 use Rattle.ncc_world.specs.World.{RunsAs}
-use Rattle.ncc_world.specs.Setting.{list_at}
+use Rattle.ncc_world.specs.Setting.{list_at, lists_of}
 use Rattle.ncc_world.specs.Parts.{run_in, clients_in, members_in}
 use Rattle.ncc_world.proofs.Remembering.{one_changes, closed_remembers}
 use Rattle.ncc_world.proofs.Happened.{sits_at, closed_same, closed_now}
@@ -13,7 +13,7 @@ returns-then-served c = record {
       let s = c.args.setup.now in
       let w = run_in c.args.self.now in
       let h = sits_at s w r c.args.index c.served.result.now k c.requires.there c.served.ensures.is in
-      subst (λ (x : ListRun). RunsAs s w x) (closed_same r c.args.index h.client h.there (sym h.is.kept.closed ∙ c.if-served.true)) k;
+      subst (λ (x : WorldRun). RunsAs s w x) (closed_same r c.args.index h.client h.there (sym h.is.kept.closed ∙ c.if-served.true)) k;
   drivers = refl;
 }
 
@@ -22,7 +22,7 @@ returns c = record {
   ok = λ r k.
       let s = c.args.setup.now in
       let h = sits_at s (run_in c.args.self.now) r c.args.index c.served.result.now k c.requires.there c.served.ensures.is in
-      subst (λ (x : ListRun). RunsAs s (record {
+      subst (λ (x : WorldRun). RunsAs s (record {
         now = c.args.self.now.clock;
         members = members_in c.args.self.now.members;
         clients = clients_in c.change.new.self;
@@ -31,12 +31,11 @@ returns c = record {
       }) x)
       (closed_now r c.args.index h.client h.there (sym h.is.kept.closed ∙ c.if-served.false)) (record {
         now = k.now;
-        history = k.history;
         members = k.members;
-        clients = c.in_ok-change.ensures.ok s (length r.members) r.clients h.client k.clients h.there refl;
+        clients = c.in_ok-change.ensures.ok s (length (lists_of r.members)) r.clients h.client k.clients h.there refl;
         told = k.told;
         earlier = one_changes s c.args.self.now.earlier.items r c.args.index h.client (record h.client { closed = true }) k.earlier h.there
-            (λ o. closed_remembers s (list_at r.members h.client.member) h.client o);
+            (λ o. closed_remembers s (list_at (lists_of r.members) h.client.member) h.client o);
       });
   drivers = refl;
 }

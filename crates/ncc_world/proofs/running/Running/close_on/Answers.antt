@@ -3,7 +3,7 @@ use Rattle.std.proofs.lemmas.Result.{on_ok_weaker}
 use Rattle.std.proofs.lemmas.Map.Entries.{length-values_of}
 use Rattle.ncc_clients.specs.Drives.{closes}
 use Rattle.ncc_world.specs.declared.drivers.Drivers.{Drivers}
-use Rattle.ncc_world.specs.Happening.{ListRun}
+use Rattle.ncc_world.specs.Happening.{WorldRun}
 use Rattle.ncc_world.specs.World.{RunsAs}
 use Rattle.ncc_world.specs.Parts.{RunsMid, run_in}
 use Rattle.ncc_world.proofs.Turning.{counted}
@@ -16,7 +16,7 @@ returns-then-len-at-clause-ok c = λ at left pending r k.
     let n = counted s (run_in c.args.self.now) r k.runs_as in
     let past : length r.clients ≤ c.args.conn - 1 =
     omega (arith, c.if-len-at.true, c.len.ensures.len, n.table, length-values_of c.args.self.now.clients.table.entries, c.saturating_sub-at.ensures) in
-    subst (λ (x : ListRun). RunsMid s at left pending c.args.self.now x) (closes_past r (c.args.conn - 1) past) k
+    subst (λ (x : WorldRun). RunsMid s at left pending c.args.self.now x) (closes_past r (c.args.conn - 1) past) k
 
 pub close-requires-clause-there : goal.close-requires-clause-there
 close-requires-clause-there c =

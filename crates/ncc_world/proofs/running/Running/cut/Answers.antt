@@ -2,7 +2,7 @@ use Rattle.std.proofs.Common.{◌∙◌, ◌-◌, [], None, ap, subst}
 use Rattle.std.proofs.lemmas.Result.{on_ok_weaker}
 use Rattle.ncc_clients.specs.Links.{Driver}
 use Rattle.ncc_clients.specs.Drives.{closes, with_driver}
-use Rattle.ncc_world.specs.Happening.{ListRun}
+use Rattle.ncc_world.specs.Happening.{WorldRun}
 use Rattle.ncc_world.specs.Parts.{RunsMid}
 use Rattle.ncc_world.proofs.Doing.{all_at, at_all, same_run, there_in, within_list, without}
 use Rattle.ncc_world.proofs.Listening.{cut_there, cuts_nothing, cuts_so, mid_becomes, unlinked_at}
@@ -20,7 +20,7 @@ returns-in_default c = record {
       let m = mid_becomes s at [] [] [] c.args.self.now r c.cut.new.self x.0 gone x.1 (c.cut.ensures.ok s x.0) k in
       let none = unlinked_at x.0.link (c.in_default.ensures.conn s r.now r.driving [] x.0 x.1 k.drives) in
       at_all s at (record c.args.self.now { drivers = c.cut.new.self }) _
-      (subst (λ (t : ListRun). RunsMid s at [] [] (record c.args.self.now { drivers = c.cut.new.self }) t)
+      (subst (λ (t : WorldRun). RunsMid s at [] [] (record c.args.self.now { drivers = c.cut.new.self }) t)
       (ap (λ (y : Driver). with_driver r at y) (without x.0 none) ∙ same_run r at x.0 x.1 ∙ cuts_nothing s c.args.line at r x.0 x.1 none) m);
 }
 
@@ -52,7 +52,7 @@ returns c = record {
       let o = c.in_ok-close_on.ensures.ok at [] [] (with_driver r at gone) m in
       let z = f (closes (with_driver r at gone) (c.in-Some.conn - 1)) gone [] (cut_there r at x.0 gone (c.in-Some.conn - 1) x.1) o in
       at_all s at c.hear.new.self _
-      (subst (λ (t : ListRun). RunsMid s at [] [] c.hear.new.self t)
+      (subst (λ (t : WorldRun). RunsMid s at [] [] c.hear.new.self t)
       (cuts_so s c.args.line at r x.0 c.in-Some.conn x.1 (c.in-Some.ensures.conn s r.now r.driving [] x.0 x.1 k.drives)) z))
       c.hear.ensures.ok;
 }

@@ -7,7 +7,7 @@ use Rattle.ncc_clients.specs.Links.{Driver}
 use Rattle.ncc_clients.specs.Drives.{down_at, driver_at, told_input, with_driver}
 use Rattle.ncc_clients.specs.Held.{fallen}
 use Rattle.ncc_world.specs.Setting.{cluster_of}
-use Rattle.ncc_world.specs.Happening.{ListRun}
+use Rattle.ncc_world.specs.Happening.{WorldRun}
 use Rattle.ncc_world.specs.Parts.{RunsMid, drivers_in}
 use Rattle.ncc_world.proofs.Doing.{all_at, at_all, held_at, there_in, within_list}
 use Rattle.ncc_world.proofs.Listening.{mid_becomes, there_now}
@@ -23,7 +23,7 @@ returns-then-is_empty-clause-ok c = λ r h.
     let none : take c.args.count down ≡ [] = sym (c.in_ok-bytes.ensures.exact r [] (all_at s at c.args.self.now r h)) ∙ empty in (
       subst AreBytes (sym none) tt,
       ap (λ (xs : List ℕ). nat_le 1 (length xs)) (sym none),
-      subst (λ (t : ListRun). RunsMid s 0 [] [] c.args.self.now t) (falls_nothing s c.args.line at r (take c.args.count) none) h,
+      subst (λ (t : WorldRun). RunsMid s 0 [] [] c.args.self.now t) (falls_nothing s c.args.line at r (take c.args.count) none) h,
     )
 
 pub returns-then-is_empty-clause-small : goal.returns-then-is_empty-clause-small
@@ -75,7 +75,7 @@ returns-clause-ok c = λ r h.
       subst (λ (xs : List ℕ). AreBytes xs) (c.as_slice.ensures.same ∙ are) c.are_bytes.ensures.below,
       some_tells bytes some ∙ ap (λ (xs : List ℕ). nat_le 1 (length xs)) are,
       at_all s at c.hear.new.self _
-          (subst (λ (t : ListRun). RunsMid s at [] [] c.hear.new.self t)
+          (subst (λ (t : WorldRun). RunsMid s at [] [] c.hear.new.self t)
           (falls_some s c.args.line at r x.0 (take c.args.count) bytes link.0 x.1 link.1 are some) told),
     )
 

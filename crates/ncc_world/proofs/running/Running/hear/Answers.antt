@@ -1,7 +1,7 @@
 use Rattle.std.proofs.Common.{◌∙◌, ℕ, [], arith, sym, subst}
 use Rattle.ncc_clients.specs.Drives.{does_more, knows, more, with_driver}
 use Rattle.ncc_world.specs.Setting.{cluster_of}
-use Rattle.ncc_world.specs.Happening.{ListRun}
+use Rattle.ncc_world.specs.Happening.{WorldRun}
 use Rattle.ncc_world.specs.Drivers.{AreAtWork}
 use Rattle.ncc_world.specs.Parts.{RunsMid, drivers_in}
 use Rattle.ncc_world.proofs.Doing.{there_in, within_list}
@@ -33,7 +33,7 @@ returns-in_default-clause-ok c = λ r d pending there h.
     let t = does_more (cluster_of s) c.args.line at r d works in
     let lt = within_list s at [] pending c.args.self.now r at d h there in
     let e = there_in s at [] pending c.act_all.new.self t at y.1 (omega (arith, lt, c.in_ok-hear.ensures.count, c.in_ok-input.ensures.count)) in
-    subst (λ (x : ListRun). RunsMid s at [] pending c.act_all.new.self x)
+    subst (λ (x : WorldRun). RunsMid s at [] pending c.act_all.new.self x)
     (told_once s c.args.line at r d e.0 works e.1 (sym c.in_default.is ∙ y.0)) y.1
 
 pub hear-requires-2-clause-there : goal.hear-requires-2-clause-there
@@ -97,5 +97,5 @@ returns-clause-ok c = λ r d pending there h.
     let again = mid_hears s at pending c.act_all.new.self t c.hear-2.new.self e.0 c.in-Some.input e.1 (c.in_ok-hear-2.ensures.ok s e.0) y.1 in
     let z = c.in_ok-act_all.ensures.ok (with_driver t at (knows e.0 after)) (knows e.0 after) (more e.0 after) pending
     (there_now t at e.0 (knows e.0 after) e.1) again in
-    subst (λ (x : ListRun). RunsMid s at [] pending c.act_all-2.new.self x)
+    subst (λ (x : WorldRun). RunsMid s at [] pending c.act_all-2.new.self x)
     (told_twice s c.args.line at r d e.0 works c.in-Some.input e.1 (sym c.in-Some.is ∙ y.0)) z.1

@@ -1,6 +1,6 @@
 use Rattle.std.proofs.Common.{◌≡◌, ◌+◌, Some, arith, length, subst}
 use Rattle.std.proofs.lemmas.Map.Entries.{length-values_of}
-use Rattle.ncc_world.specs.Happening.{ListRun}
+use Rattle.ncc_world.specs.Happening.{WorldRun}
 use Rattle.ncc_world.specs.Parts.{RunsMid, run_in}
 use Rattle.ncc_world.proofs.Turning.{counted}
 use Rattle.ncc_world.proofs.Doing.{within_list}
@@ -36,6 +36,6 @@ returns-clause-ok c = λ r d left pending there h.
     let e = named_is s at left pending c.args.self.now r c.args.address.now (Some c.in-Some.member) h c.in-Some.ensures.exact in
     let j = joins_some s at d r c.args.address.now c.in-Some.member e in (
       j.0,
-      subst (λ (t : ListRun). RunsMid s at left pending (record c.open_to.new.self { drivers = c.join.new.self }) t) j.1
+      subst (λ (t : WorldRun). RunsMid s at left pending (record c.open_to.new.self { drivers = c.join.new.self }) t) j.1
           (mid_joined s at left pending c.open_to.new.self r c.join.new.self d c.in-Some.member (c.len.result + 1) conn o k),
     )

@@ -1,11 +1,11 @@
-use Rattle.std.proofs.Common.{◌∙◌, ◌+◌, [], ℕ, refl, sym, subst, List, Option}
+use Rattle.std.proofs.Common.{◌+◌, [], ℕ, refl, sym, subst, List, Option}
 use Rattle.ncc_world.specs.declared.earlier.Earlier.{Earlier}
 use Rattle.ncc_world.specs.Earlier.{AllRemember}
 use Rattle.ncc_world.specs.Happening.{start_of}
 use Rattle.ncc_world.specs.World.{AreServed}
 use Rattle.ncc_world.specs.Parts.{clients_in}
 use Rattle.ncc_world.proofs.Remembering.{none_remember}
-use Rattle.ncc_world.proofs.Firstly.{first_list, empties_count}
+use Rattle.ncc_world.proofs.Firstly.{empties_count}
 use Rattle.ncc_world.proofs.running.Running.new.Goals as goal
 
 pub returns : goal.returns
@@ -16,7 +16,6 @@ returns c =
       begun = record {
         runs_as = record {
           now = refl;
-          history = sym c.in_ok-members.ensures.new.first ∙ first_list n;
           members = c.in_ok-members.ensures.new;
           clients = subst (λ (k : ℕ). AreServed s k (clients_in c.in_ok-clients.clients) []) (sym (empties_count n))
               (c.in_ok-clients.ensures.none s);

@@ -84,13 +84,12 @@ returns-in_ok-proposal-in-Leave c = record {
       record {
         entry = c.in-Leave.entry;
         entry_is = sym (asked_is s v seen d client.kept) ∙ c.in-Some.ensures.some ∙ ap (λ (q : Ask). Some (asks_of q)) c.in-Leave.is;
-        proposed_so = subst (λ m. IsProposed s r.members ((cluster_of s).propose r.members m c.in-Leave.entry) c.in_ok-proposal-in-Leave.proposal
-            (members_in c.propose.new.self)) client.kept.member (c.in_ok-proposal-in-Leave.ensures.ok r.members k.members);
+        proposed_so = subst (λ m. IsProposed s r.members r.history ((cluster_of s).propose r.members m c.in-Leave.entry) c.in_ok-proposal-in-Leave.proposal
+            (members_in c.propose.new.self)) client.kept.member (c.in_ok-proposal-in-Leave.ensures.ok r.members r.history k.members);
         clock = refl;
         clients = refl;
         told = refl;
         earlier = refl;
-        grows = c.in_ok-proposal-in-Leave.ensures.only_grows;
       };
   drivers = refl;
 }

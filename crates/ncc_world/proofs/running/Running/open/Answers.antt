@@ -21,7 +21,6 @@ returns-clause-ok c = λ r k.
     let ends = member_ends r c.args.member (c.requires.there r k) in
     record {
       now = k.now;
-      history = k.history;
       members = k.members;
       clients = c.in_ok-open.ensures.ok r k.clients k.now (ends.low_is, ends.high_is);
       told = k.told;

@@ -4,12 +4,13 @@ use Rattle.ncc_clients.specs.Run.{opened}
 use Rattle.ncc_world.specs.declared.drivers.Drivers.{Drivers}
 use Rattle.ncc_world.proofs.Aside.{opened_aside, mid_from}
 use Rattle.ncc_world.proofs.Happened.{member_between}
-use Rattle.ncc_world.proofs.Listing.{shelf_count}
+use Rattle.ncc_world.specs.Parts.{members_in}
+use Rattle.ncc_world.proofs.Seated.{shelves_count}
 use Rattle.ncc_world.proofs.running.Running.open_to.Goals as goal
 
 pub open-requires-clause-there : goal.open-requires-clause-there
 open-requires-clause-there c = λ r k.
-    member_between r c.args.member c.requires.there.0 (omega (arith, c.requires.there.1, shelf_count _ _ r.members k.members.shelves))
+    member_between r c.args.member c.requires.there.0 (omega (arith, c.requires.there.1, shelves_count c.args.setup.now (members_in c.args.self.now.members) r.members r.history k.members))
 
 pub returns-clause-ok : goal.returns-clause-ok
 returns-clause-ok c = on_ok_weaker c.open.result (λ f at left pending r k.

@@ -1,16 +1,14 @@
-use Rattle.std.proofs.Common.{◌≡◌, ◌∙◌, ap, sym, refl, Some, subst, length, arith, List, ◌<◌, ◌++◌, Option}
+use Rattle.std.proofs.Common.{◌≡◌, ◌∙◌, sym, refl, Some, subst, length, arith, List, ◌<◌, Option}
 use Rattle.std.specs.Prelude.{slice_get, slice_set}
 use Rattle.indexmap.specs.IndexMap.{values}
-use Rattle.ncc_tx.specs.declared.entry.Item.{Item}
 use Rattle.ncc_clients.specs.Members.{Proposed}
 use Rattle.ncc_clients.specs.Run.{proposed, with_placing, accepted}
 use Rattle.ncc_world.specs.declared.clients.Clients.{Clients}
 use Rattle.ncc_world.specs.declared.earlier.Earlier.{Earlier}
-use Rattle.ncc_world.specs.Setting.{Lists, cluster_of}
+use Rattle.ncc_world.specs.Setting.{Seats, lists_of, cluster_of}
 use Rattle.ncc_world.specs.Earlier.{AllRemember}
 use Rattle.ncc_world.specs.World.{RunsAs, AreServed}
 use Rattle.ncc_world.specs.Parts.{left_in, run_in, members_in, clients_in}
-use Rattle.ncc_world.proofs.Listing.{longest_is}
 use Rattle.ncc_world.proofs.Keeping.{get_there}
 use Rattle.ncc_world.proofs.Turning.{counted}
 use Rattle.ncc_world.proofs.Remembering.{all_accepted}
@@ -29,7 +27,7 @@ tell-requires-clause-live c =
     record {
       run = r;
       runs_as = kept_by s r c.args.self.now c.offer.new.self k
-          (was_elsewhere s r.members _ _ c.in_ok-offer.field-0 o.proposed_so c.in-Elsewhere.is).members o.clock o.clients o.told o.earlier;
+          (was_elsewhere s r.members r.history _ _ c.in_ok-offer.field-0 o.proposed_so c.in-Elsewhere.is).members o.clock o.clients o.told o.earlier;
     }
 
 pub tell-requires-clause-there : goal.tell-requires-clause-there
@@ -66,7 +64,7 @@ tell-requires-in-Full-clause-live c =
     record {
       run = r;
       runs_as = kept_by s r c.args.self.now c.offer.new.self k
-          (was_full s r.members _ _ c.in_ok-offer.field-0 c.in-Full.entries o.proposed_so c.in-Full.is).members o.clock o.clients o.told o.earlier;
+          (was_full s r.members r.history _ _ c.in_ok-offer.field-0 c.in-Full.entries o.proposed_so c.in-Full.is).members o.clock o.clients o.told o.earlier;
     }
 
 pub tell-requires-in-Full-clause-there : goal.tell-requires-in-Full-clause-there
@@ -97,11 +95,11 @@ returns-in_ok-tell-in-Elsewhere c = record {
   ok = λ r d k there.
       let s = c.args.setup.now in
       let o = c.in_ok-offer.ensures.ok r d k there in
-      let q = was_elsewhere s r.members _ _ c.in_ok-offer.field-0 o.proposed_so c.in-Elsewhere.is in
+      let q = was_elsewhere s r.members r.history _ _ c.in_ok-offer.field-0 o.proposed_so c.in-Elsewhere.is in
       let mid = kept_by s r c.args.self.now c.offer.new.self k q.members o.clock o.clients o.told o.earlier in (
         proposed (cluster_of s) c.args.line r c.args.index d ((cluster_of s).propose r.members d.member o.entry),
         (o.entry, o.entry_is, refl),
-        subst (λ (x : Proposed Lists). RunsAs s (run_in c.tell.new.self) (proposed (cluster_of s) c.args.line r c.args.index d x)) (sym q.becomes)
+        subst (λ (x : Proposed Seats). RunsAs s (run_in c.tell.new.self) (proposed (cluster_of s) c.args.line r c.args.index d x)) (sym q.becomes)
             (c.in_ok-tell-in-Elsewhere.ensures.ok r d mid there),
       );
   lowers =
@@ -119,11 +117,11 @@ returns-in_ok-tell-in-Full c = record {
   ok = λ r d k there.
       let s = c.args.setup.now in
       let o = c.in_ok-offer.ensures.ok r d k there in
-      let q = was_full s r.members _ _ c.in_ok-offer.field-0 c.in-Full.entries o.proposed_so c.in-Full.is in
+      let q = was_full s r.members r.history _ _ c.in_ok-offer.field-0 c.in-Full.entries o.proposed_so c.in-Full.is in
       let mid = kept_by s r c.args.self.now c.offer.new.self k q.members o.clock o.clients o.told o.earlier in (
         proposed (cluster_of s) c.args.line r c.args.index d ((cluster_of s).propose r.members d.member o.entry),
         (o.entry, o.entry_is, refl),
-        subst (λ (x : Proposed Lists). RunsAs s (run_in c.tell-in-Full.new.self) (proposed (cluster_of s) c.args.line r c.args.index d x)) (sym q.becomes)
+        subst (λ (x : Proposed Seats). RunsAs s (run_in c.tell-in-Full.new.self) (proposed (cluster_of s) c.args.line r c.args.index d x)) (sym q.becomes)
             (c.in_ok-tell-in-Full.ensures.ok r d mid there),
       );
   lowers =
@@ -162,9 +160,9 @@ change-requires-clause-served c =
     let o = c.in_ok-offer.ensures.ok r d.0 k d.1 in
     record {
       setup = s;
-      count = length r.members;
+      count = length (lists_of r.members);
       clients = r.clients;
-      are = subst (λ (x : Clients). AreServed s (length r.members) (clients_in x) r.clients) (sym o.clients) k.clients;
+      are = subst (λ (x : Clients). AreServed s (length (lists_of r.members)) (clients_in x) r.clients) (sym o.clients) k.clients;
     }
 
 pub change-requires-clause-may : goal.change-requires-clause-may
@@ -175,7 +173,7 @@ change-requires-clause-may c = λ v e.
     let n = counted s (run_in c.args.self.now) r k in
     let d = get_there r.clients c.args.index (omega (arith, n.table, c.requires.there)) in
     let o = c.in_ok-offer.ensures.ok r d.0 k d.1 in
-    (was_placed s r.members d.0.member o.entry _ c.in_ok-offer.field-0 c.in-Placed.place o.proposed_so c.in-Placed.is).some
+    (was_placed s r.members r.history _ _ c.in_ok-offer.field-0 c.in-Placed.place o.proposed_so c.in-Placed.is).some
 
 pub returns-in_ok-change-in-Placed : goal.returns-in_ok-change-in-Placed
 returns-in_ok-change-in-Placed c = record {
@@ -184,22 +182,21 @@ returns-in_ok-change-in-Placed c = record {
       let i = c.args.index in
       let p = c.in-Placed.place in
       let o = c.in_ok-offer.ensures.ok r d k there in
-      let q = was_placed s r.members d.member o.entry _ c.in_ok-offer.field-0 p o.proposed_so c.in-Placed.is in
-      let old = subst (λ (x : Clients). AreServed s (length r.members) (clients_in x) r.clients) (sym o.clients) k.clients in
-      let one = c.in_ok-change-in-Placed.ensures.ok s (length r.members) r.clients d old there refl in
-      let two = subst (λ n. AreServed s (length r.members) (clients_in c.change.new.self) (slice_set r.clients i (with_placing n d p.place p.term)))
+      let q = was_placed s r.members r.history _ _ c.in_ok-offer.field-0 p o.proposed_so c.in-Placed.is in
+      let old = subst (λ (x : Clients). AreServed s (length (lists_of r.members)) (clients_in x) r.clients) (sym o.clients) k.clients in
+      let one = c.in_ok-change-in-Placed.ensures.ok s (length (lists_of r.members)) r.clients d old there refl in
+      let two = subst (λ n. AreServed s (length (lists_of r.members)) (clients_in c.change.new.self) (slice_set r.clients i (with_placing n d p.place p.term)))
       (o.clock ∙ k.now) one in
       let three = subst (λ n. AreServed s n (clients_in c.change.new.self) (slice_set r.clients i (with_placing r.now d p.place p.term)))
-      (sym q.count) two in
+      (sym q.become.count) two in
       let all = accepted_as s r i d p.place p.term q.after c.offer.new.self.clock (members_in c.offer.new.self.members)
       (clients_in c.change.new.self) c.offer.new.self.told c.offer.new.self.earlier.items (o.clock ∙ k.now)
-      (sym (longest_is r.history o.grows.0 c.offer.new.self.members.items _ q.after q.members.shelves q.members.first q.members.some
-      (ap (λ (h : List Item). h ++ o.grows.0) (sym k.history) ∙ o.grows.1))) q.members three (o.told ∙ k.told)
+      q.become.are three (o.told ∙ k.told)
       (subst (λ (es : List (Option Earlier)). AllRemember s es (accepted (cluster_of s) r i d p.place p.term q.after)) (sym o.earlier)
-      (all_accepted s c.args.self.now.earlier.items r i d p.place p.term q.after k.earlier there q.grows)) in (
+      (all_accepted s c.args.self.now.earlier.items r i d p.place p.term q.after k.earlier there q.become.grow)) in (
         proposed (cluster_of s) c.args.line r i d ((cluster_of s).propose r.members d.member o.entry),
         (o.entry, o.entry_is, refl),
-        subst (λ (x : Proposed Lists). RunsAs s (record {
+        subst (λ (x : Proposed Seats). RunsAs s (record {
           now = c.offer.new.self.clock;
           members = members_in c.offer.new.self.members;
           clients = clients_in c.change.new.self;

@@ -2,7 +2,7 @@ use Rattle.std.proofs.Common.{[], subst}
 use Rattle.std.proofs.lemmas.Result.{on_ok_weaker}
 use Rattle.ncc_clients.specs.Links.{lift_bytes}
 use Rattle.ncc_clients.specs.Drives.{with_driver}
-use Rattle.ncc_world.specs.Happening.{ListRun}
+use Rattle.ncc_world.specs.Happening.{WorldRun}
 use Rattle.ncc_world.specs.Parts.{RunsMid}
 use Rattle.ncc_world.proofs.Doing.{all_at, at_all, there_in, within_list}
 use Rattle.ncc_world.proofs.Listening.{there_now}
@@ -40,6 +40,6 @@ returns c = record {
       (λ y. c.in_ok-bytes.ensures.ok s x.0 r.now r.driving [] x.1 y) k in
       let z = f (with_driver r at (taken_from lift x.0)) [] m.1 in
       at_all s at c.rise.new.self _
-      (subst (λ (t : ListRun). RunsMid s at [] [] c.rise.new.self t) (lifts_so s r at x.0 lift c.in_ok-bytes.bytes x.1 m.0) z))
+      (subst (λ (t : WorldRun). RunsMid s at [] [] c.rise.new.self t) (lifts_so s r at x.0 lift c.in_ok-bytes.bytes x.1 m.0) z))
       c.rise.ensures.ok;
 }

@@ -1,7 +1,7 @@
 use Rattle.std.proofs.Common.{[], subst}
 use Rattle.std.proofs.lemmas.Result.{on_ok_weaker}
 use Rattle.ncc_clients.specs.Drives.{lift_to, with_driver}
-use Rattle.ncc_world.specs.Happening.{ListRun}
+use Rattle.ncc_world.specs.Happening.{WorldRun}
 use Rattle.ncc_world.specs.Parts.{RunsMid}
 use Rattle.ncc_world.proofs.Doing.{there_in, within_list}
 use Rattle.ncc_world.proofs.Listening.{there_now}
@@ -37,5 +37,5 @@ returns-clause-ok c =
     let m = mid_lifts s at pending c.args.self.now r c.lift_to.new.self x.0 lift c.in_ok-bytes.bytes x.1
     (λ y. c.in_ok-bytes.ensures.ok s x.0 r.now r.driving pending x.1 y) h in
     let z = f (with_driver r at (taken_from lift x.0)) pending m.1 in
-    subst (λ (t : ListRun). RunsMid s at [] pending c.rise.new.self t) (lifts_so s r at x.0 lift c.in_ok-bytes.bytes x.1 m.0) z)
+    subst (λ (t : WorldRun). RunsMid s at [] pending c.rise.new.self t) (lifts_so s r at x.0 lift c.in_ok-bytes.bytes x.1 m.0) z)
     c.rise.ensures.ok

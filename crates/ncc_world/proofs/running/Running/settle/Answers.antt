@@ -2,12 +2,12 @@ use Rattle.std.proofs.Common.{Bool, refl, subst, ◌∙◌}
 use Rattle.ncc_clients.specs.Turn.{Turn, Turns, Here, Then}
 use Rattle.ncc_world.specs.declared.setup.Setup.{Setup}
 use Rattle.ncc_world.specs.Setting.{cluster_of}
-use Rattle.ncc_world.specs.Happening.{ListRun}
+use Rattle.ncc_world.specs.Happening.{WorldRun}
 use Rattle.ncc_world.specs.Parts.{TurnBy, run_in}
 use Rattle.std.proofs.Common.{ℕ}
 use Rattle.ncc_world.proofs.running.Running.settle.Goals as goal
 
-turns_on : (s : Setup) (line : ℕ) (r t u : ListRun) → Turns (cluster_of s) line r t → Turn (cluster_of s) line t u → Turns (cluster_of s) line r u
+turns_on : (s : Setup) (line : ℕ) (r t u : WorldRun) → Turns (cluster_of s) line r t → Turn (cluster_of s) line t u → Turns (cluster_of s) line r u
 turns_on s line r t u (Here _) k = Then r u u k (Here u)
 turns_on s line r t u (Then _ m _ first more) k = Then r m u first (turns_on s line m t u more k)
 

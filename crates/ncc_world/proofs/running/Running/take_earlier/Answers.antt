@@ -3,7 +3,7 @@ use Rattle.std.proofs.lemmas.Option.{slice_get_read}
 use Rattle.std.specs.Prelude.{slice_get, slice_set}
 use Rattle.ncc_world.specs.declared.earlier.Earlier.{Earlier}
 use Rattle.ncc_world.specs.Earlier.{AllRemember, Remembers}
-use Rattle.ncc_world.specs.Setting.{list_at}
+use Rattle.ncc_world.specs.Setting.{list_at, lists_of}
 use Rattle.ncc_world.specs.Parts.{run_in}
 use Rattle.ncc_world.proofs.Remembering.{one_forgotten}
 use Rattle.ncc_world.proofs.Turning.{counted}
@@ -17,7 +17,6 @@ returns-clause-runs c = λ r k.
     omega (arith, k.earlier.count, (counted s (run_in c.args.self.now) r k).table, c.requires.there) in
     record {
       now = k.now;
-      history = k.history;
       members = k.members;
       clients = k.clients;
       told = k.told;
@@ -33,5 +32,5 @@ returns-clause-kept c = λ r k d there.
     omega (arith, k.earlier.count, (counted s (run_in c.args.self.now) r k).table, c.requires.there) in
     let o : Option Earlier = c.index_mut.result.now in
     let at : slice_get es c.args.index ≡ Some o = slice_get_read es (length es) c.args.index o refl within c.index_mut.ensures.value in
-    subst (λ (x : Option Earlier). Remembers s (list_at r.members d.member) d x) (sym c.take.ensures.value)
+    subst (λ (x : Option Earlier). Remembers s (list_at (lists_of r.members) d.member) d x) (sym c.take.ensures.value)
     (k.earlier.each c.args.index d o there at)

@@ -6,6 +6,7 @@ use Rattle.ncc_session.specs.declared.ask.Fact.{Fact}
 use Rattle.ncc_session.specs.Talk.{asked}
 use Rattle.ncc_clients.specs.declared.told.Told.{Told}
 use Rattle.ncc_clients.specs.Run.{Client, with_fact}
+use Rattle.ncc_world.specs.Setting.{lists_of}
 use Rattle.ncc_world.specs.Spellable.{rows_fit}
 use Rattle.ncc_world.specs.World.{AreServed, IsClient}
 use Rattle.ncc_world.specs.Parts.{run_in, clients_in}
@@ -35,11 +36,10 @@ returns c = record {
       let number = seen_at s (run_in c.args.self.now) r c.args.index c.shown.result.now d k there c.shown.ensures.shown in
       record {
         now = k.now;
-        history = k.history;
         members = k.members;
-        clients = subst (λ n. AreServed s (length r.members) (clients_in c.change.new.self)
+        clients = subst (λ n. AreServed s (length (lists_of r.members)) (clients_in c.change.new.self)
             (slice_set r.clients c.args.index (with_fact n d c.args.fact))) k.now
-            (c.in_ok-change.ensures.ok s (length r.members) r.clients d k.clients there refl);
+            (c.in_ok-change.ensures.ok s (length (lists_of r.members)) r.clients d k.clients there refl);
         told = c.in_ok-push.ensures.ok
             ∙ ap (λ (x : Fact). c.args.self.now.told ++ (record { line = c.args.line; conn = c.shown.result.now.conn; fact = x } ∷ []))
             c.in_ok-copy.ensures.equal

@@ -1,6 +1,6 @@
 use Rattle.std.proofs.Common.{◌≡◌, take}
 use Rattle.ncc_apply.specs.Shelf.{Stands}
-use Rattle.ncc_world.proofs.members.apply_to.Given as goal
+use Rattle.ncc_world.proofs.one_list.apply_to.Given as goal
 
 abbrev pub invariant-loop-place : goal.invariant-loop-place
 invariant-loop-place l = record {

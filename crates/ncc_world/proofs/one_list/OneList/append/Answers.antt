@@ -1,12 +1,12 @@
 use Rattle.std.proofs.Common.{◌≡◌, ◌∙◌, ap, sym, length, arith, subst, List, ◌∷◌, [], ◌++◌, get_or}
 use Rattle.std.specs.Prelude.{slice_set}
 use Rattle.ncc_tx.specs.declared.entry.Item.{Item}
-use Rattle.ncc_world.specs.World.{AreMembers}
+use Rattle.ncc_world.specs.World.{AreOneList}
 use Rattle.ncc_world.specs.Setting.{list_at}
 use Rattle.ncc_world.specs.declared.seen.MemberSeen.{MemberSeen}
 use Rattle.ncc_world.proofs.Listing.{shelf_count, seen_count}
 use Rattle.ncc_world.proofs.Moving.{kept, appended_one}
-use Rattle.ncc_world.proofs.members.Members.append.Goals as goal
+use Rattle.ncc_world.proofs.one_list.OneList.append.Goals as goal
 
 pub index_mut-requires : goal.index_mut-requires
 index_mut-requires c =
@@ -31,8 +31,8 @@ returns c = record {
       let new = slice_set lists 0 (list_at lists 1 ++ (c.args.item ∷ [])) in
       let shown : c.from_vec.result ≡ slice_set seen 0 n =
       c.from_vec.ensures.same ∙ ap (λ (l : List MemberSeen). slice_set l 0 n) c.taken-seen.ensures.same in
-      subst (λ (l : List MemberSeen). AreMembers s (kept c.push.new.self (slice_set shelves 0 y) l) new) (sym shown)
-      (subst (λ (l : List Item). AreMembers s (kept l (slice_set shelves 0 y) (slice_set seen 0 n)) new) (sym c.in_ok-push.ensures.ok)
+      subst (λ (l : List MemberSeen). AreOneList s (kept c.push.new.self (slice_set shelves 0 y) l) new) (sym shown)
+      (subst (λ (l : List Item). AreOneList s (kept l (slice_set shelves 0 y) (slice_set seen 0 n)) new) (sym c.in_ok-push.ensures.ok)
       (appended_one s items shelves seen lists c.args.item x y m n k c.index_mut.ensures.value
       (c.index_mut-2.ensures.value ∙ ap (λ (l : List MemberSeen). get_or l 0 m) c.taken-seen.ensures.same)
       c.in_ok-applied.ensures.shelf c.in_ok-applied.ensures.seen));

@@ -1,5 +1,5 @@
 use Rattle.ncc_world.proofs.Firstly.{AreFirst}
-use Rattle.ncc_world.proofs.members.Members.new.Given as goal
+use Rattle.ncc_world.proofs.one_list.OneList.new.Given as goal
 
 -- so many members that have applied nothing
 abbrev pub invariant-loop-index : goal.invariant-loop-index
