@@ -1,0 +1,4 @@
+pub mod Bounds
+pub mod Starting
+pub mod Turning
+pub mod Opened

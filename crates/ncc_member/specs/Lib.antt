@@ -1,0 +1,5 @@
+pub mod Event
+pub mod Journaled
+pub mod Answers
+pub mod Room
+pub mod Opening
