@@ -82,6 +82,7 @@ goes_is_at job work x y m s r old new last now e a k l =
       calls = k.calls ++ a.went.calls;
       began = k.began;
       later = k.later ++ a.went.moments;
+      fits = k.fits;
       at = a.goes_on k.config k.calls k.began k.later k.at;
       in_time = let t = k.in_time in omega (arith, t, l);
     })

@@ -1,6 +1,7 @@
 pub mod Named
 pub mod Lists
 pub mod Going
+pub mod Ahead
 pub mod Joining
 pub mod Starting
 pub mod Asking

@@ -1,5 +1,7 @@
 -- A work that is begun and started in a new session.
 use Rattle.std.proofs.Common.{◌≡◌, ℕ, ◌≤◌, false, List, [], ◌∷◌, refl, sym, ap, ◌∙◌, subst, arith}
+use Rattle.std.specs.Prelude.{IsTrue}
+use Rattle.ncc_driver.specs.Config.{config_fits}
 use Rattle.ncc_driver.specs.declared.config.SessionConfig.{SessionConfig}
 use Rattle.ncc_driver.specs.declared.standing.Core.{Core}
 use Rattle.ncc_driver.specs.declared.standing.Stage.{Stage}
@@ -78,9 +80,9 @@ started mid new config job now before after k t s =
     }
 
 pub started_is : (new : Held) (config : SessionConfig) (job : Job) (now last : ℕ) (behind : List (List Row) → Type 0)
-    → At config job behind [] now [] new → now ≤ last → IsAt job behind last new
-started_is new config job now last behind k l =
-    record { config = config; calls = []; began = now; later = []; at = k; in_time = l }
+    → IsTrue (config_fits config) → At config job behind [] now [] new → now ≤ last → IsAt job behind last new
+started_is new config job now last behind f k l =
+    record { config = config; calls = []; began = now; later = []; fits = f; at = k; in_time = l }
 
 worked : (config : SessionConfig) (job : Job) (behind : List (List Row) → Type 0) (made : List Call → Type 0)
     (ticks ticked : List ℕ → Type 0) (rose : Type 0) (now : ℕ) (held : Held) (why : Stop) → At config job behind [] now [] held

@@ -1,11 +1,13 @@
 -- What the parts of a client's work do. No public clause speaks of it.
-use Rattle.std.specs.Prelude.{◌≡◌, ℕ, ◌≤◌, List, [], ◌∷◌, ◌++◌, length, map}
+use Rattle.std.specs.Prelude.{◌≡◌, ℕ, ◌≤◌, List, [], ◌∷◌, ◌++◌, length, map, IsTrue}
 use Rattle.std.specs.List.{Contains}
 use Rattle.ncc_driver.specs.declared.config.SessionConfig.{SessionConfig}
 use Rattle.ncc_driver.specs.declared.action.Action.{Action}
 use Rattle.ncc_driver.specs.declared.action.Action.TheVariants.{Finish}
 use Rattle.ncc_driver.specs.declared.action.Input.{Input}
 use Rattle.ncc_driver.specs.declared.action.Input.TheVariants as i
+use Rattle.ncc_driver.specs.Config.{config_fits}
+use Rattle.ncc_driver.specs.Fitting.{end_fits}
 use Rattle.ncc_driver.specs.Work.{Row, Job}
 use Rattle.ncc_driver.specs.State.{BehindAt}
 use Rattle.ncc_driver.specs.Session.{acts, told_in}
@@ -24,12 +26,13 @@ pub record At (config : SessionConfig) (job : Job) (behind : List (List Row) →
   pub stands : Stands held config (one_work job began calls later ∷ []) (map action_of calls)
   pub is_behind : BehindAt held.core.stage behind (told_in config (one_work job began calls later ∷ []))
 
--- The same of some calls, and the work was not begun later than this.
+-- The same of some calls and a configuration that fits, and the work was not begun later than this.
 pub record IsAt (job : Job) (behind : List (List Row) → Type 0) (last : ℕ) (held : Held) : Type 0 where
   pub config : SessionConfig
   pub calls : List Call
   pub began : ℕ
   pub later : List ℕ
+  pub fits : IsTrue (config_fits config)
   pub at : At config job behind calls began later held
   pub in_time : began ≤ last
 
@@ -70,6 +73,11 @@ pub record Goes (job : Job) (before after : List (List Row) → Type 0) (made : 
 abbrev pub StopsBy : Stop → List Action → Type 0
 StopsBy (stop.Ended end) rest = (more : List Action) × (rest ≡ Finish end ∷ more)
 StopsBy stop.Memory rest = Unit {0}
+
+-- What the end says has a spelling.
+abbrev pub StopFits : Stop → Type 0
+StopFits (stop.Ended end) = IsTrue (end_fits end)
+StopFits stop.Memory = Unit {0}
 
 pub record Stopped (config : SessionConfig) (job : Job) (calls : List Call) (began : ℕ) (later : List ℕ) (why : Stop) : Type 0 where
   pub one_each : length later ≡ length (given calls)

@@ -7,21 +7,19 @@ ghost use Rattle.ncc_base.specs.Faults.{Rose};
 ghost use Rattle.ncc_base.specs.Flushing.{IsAllFlushed};
 ghost use Rattle.ncc_driver.specs.Config.{config_fits};
 ghost use Rattle.ncc_driver.specs.declared.config.SessionConfig.{SessionConfig};
-ghost use Rattle.ncc_driver.specs.Work.{Job, job_by};
+ghost use Rattle.ncc_driver.specs.Work.{Job, job_by, rows_fit};
 ghost use Rattle.ncc_driver.specs.Talk.{StandsAt};
 ghost use Rattle.ncc_client.specs.Calls.{Call, MakesMore};
 ghost use Rattle.ncc_client.specs.Words.{Asks, AsksSome, TaskFits, job_of};
 ghost use Rattle.ncc_client.specs.Working.{WorkedBy, SaysBy};
-ghost use Rattle.ncc_client.specs.Turning.{MakesBy, IsAt, Goes, Stops, Worked, Unbegun};
+ghost use Rattle.ncc_client.specs.Turning.{MakesBy, IsAt, Goes, Stops, StopFits, Worked, Unbegun};
 
 use crate::line::done_line;
 use crate::links::Links;
 use crate::status::ClientStatus;
 use crate::words::{Order, Task, WordsError, order_in};
 use ncc_base::{Clock, Sink, SinkError};
-use ncc_driver::{
-    Action, Add, Get, Input, Put, Session, SessionConfig, Work, WorkDone, WorkError, rows_fit,
-};
+use ncc_driver::{Action, Add, Get, Input, Put, Session, SessionConfig, Work, WorkDone, WorkError};
 use ncc_pack::{Bytes, Memory, Words};
 use std::alloc::Global;
 
@@ -109,15 +107,18 @@ fn turn<W: Work, L: Links, C: Clock>(
 ) -> Result<(), Stop>
     requires at { IsAt (job_by (W.writing work.old) (W.steps work.old)) (W.stands work.old) (C.last clock.old) session.old }
     requires stands { StandsAt session.old.core.stage (W.stands work.old) }
+    requires more { session.old.queue ≢ [] }
     ensures ok { OnOk result (Goes (job_by (W.writing work.old) (W.steps work.old)) (W.stands work.old) (W.stands work.new)
         (λ calls. MakesMore (L.calls links.old) (L.calls links.new) calls)
         (λ moments. Tells (C.told clock.old) (C.told clock.new) moments) (Rose (L.losses links.old) (L.losses links.new))
         session.old session.new) }
     ensures stands { OnOk result (StandsAt session.new.core.stage (W.stands work.new)) }
+    ensures more { OnOk result (session.new.queue ≢ []) }
     ensures err { IfErr result (λ why. Stops (job_by (W.writing work.old) (W.steps work.old)) (W.stands work.old)
         (λ calls. MakesMore (L.calls links.old) (L.calls links.new) calls)
         (λ moments. Tells (C.told clock.old) (C.told clock.new) moments) (Rose (L.losses links.old) (L.losses links.new))
         session.old why) }
+    ensures fits { IfErr result StopFits }
     ensures writing { W.writing work.new ≡ W.writing work.old }
     ensures steps { W.steps work.new ≡ W.steps work.old }
     ensures losses { L.losses links.old ≤ L.losses links.new }
@@ -125,7 +126,8 @@ fn turn<W: Work, L: Links, C: Clock>(
 {
     let action = match session.next() {
         Some(action) => action,
-        None => return Err(Stop::Memory),
+        // Until its end a work that was told to start has something left to do.
+        None => unreachable!(),
     };
     match make(alloc, action, links) {
         Ok(Made::Nothing) => Ok(()),
@@ -151,6 +153,8 @@ fn drive<W: Work, L: Links, C: Clock>(
 ) -> Stop
     requires at { IsAt (job_by (W.writing work.old) (W.steps work.old)) (W.stands work.old) (C.last clock.old) session.old }
     requires stands { StandsAt session.old.core.stage (W.stands work.old) }
+    requires more { session.old.queue ≢ [] }
+    ensures fits { StopFits result }
     ensures stops { Stops (job_by (W.writing work.old) (W.steps work.old)) (W.stands work.old)
         (λ calls. MakesMore (L.calls links.old) (L.calls links.new) calls)
         (λ moments. Tells (C.told clock.old) (C.told clock.new) moments) (Rose (L.losses links.old) (L.losses links.new))
@@ -174,6 +178,7 @@ fn run<W: Work, L: Links, C: Clock>(
     clock: &mut C,
 ) -> Stop
     requires config { IsTrue (config_fits config) }
+    ensures fits { StopFits result }
     ensures worked { Unbegun (λ calls. MakesMore (L.calls links.old) (L.calls links.new) calls)
         (λ moments. Tells (C.told clock.old) (C.told clock.new) moments) result
         ⊎ Worked config (job_by (W.writing work.old) (W.steps work.old))
@@ -199,6 +204,7 @@ fn run<W: Work, L: Links, C: Clock>(
 fn run_task<L: Links, C: Clock>(alloc: Global, order: Order, links: &mut L, clock: &mut C) -> Stop
     requires config { IsTrue (config_fits order.config) }
     requires task { TaskFits order.task }
+    ensures fits { StopFits result }
     ensures worked { Unbegun (λ calls. MakesMore (L.calls links.old) (L.calls links.new) calls)
         (λ moments. Tells (C.told clock.old) (C.told clock.new) moments) result
         ⊎ Worked order.config (job_of order.task) (λ calls. MakesMore (L.calls links.old) (L.calls links.new) calls)
@@ -225,13 +231,11 @@ fn run_task<L: Links, C: Clock>(alloc: Global, order: Order, links: &mut L, cloc
 
 // Writes the line of a work that was committed, and flushes it.
 fn tell<K: Sink>(alloc: Global, done: &WorkDone, output: &mut K) -> ClientStatus
+    requires fits { IsTrue (rows_fit done.now.rows) }
     ensures says { SaysBy (λ bytes. Appends (K.held output.old) (K.held output.new) bytes) (Ok done.now) result }
     ensures flushed { result ≡ ClientStatus.Done → IsAllFlushed (K.held output.new) (K.flushed output.new) }
     ensures failed { result ≡ ClientStatus.WriteFault → Rose (K.faults output.old) (K.faults output.new) }
 {
-    if !rows_fit(&done.rows) {
-        return ClientStatus::Memory;
-    }
     let line = match done_line(alloc, done) {
         Ok(line) => line,
         Err(_) => return ClientStatus::Memory,

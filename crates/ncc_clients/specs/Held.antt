@@ -1,8 +1,9 @@
 -- A session of a driver as its callers see it: what it keeps, which session of a run it stands for, and what each call makes of that.
-use Rattle.std.specs.Prelude.{◌≡◌, ℕ, ◌+◌, List, [], ◌∷◌, ◌++◌, Option, Some, None}
+use Rattle.std.specs.Prelude.{◌≡◌, ℕ, ◌+◌, Bool, true, List, [], ◌∷◌, ◌++◌, Option, Some, None}
 use Rattle.ncc_driver.specs.declared.standing.Stage.{Stage}
 use Rattle.ncc_driver.specs.declared.action.Action.{Action}
 use Rattle.ncc_driver.specs.declared.action.Action.TheVariants.{Connect, Send, Close, Sleep, Finish}
+use Rattle.ncc_driver.specs.Fitting.{end_fits}
 use Rattle.ncc_driver.specs.State.{BehindAt}
 use Rattle.ncc_driver.specs.Session.{Begun, told_in}
 use Rattle.ncc_driver.specs.Talk.{Held as Session, Stands, StandsAt}
@@ -77,6 +78,11 @@ effect_of d Close = parts_by d.link
 effect_of d (Sleep until) = Sleeps until
 effect_of d (Finish ended) = Ends ended
 effect_of d _ = Nothing
+
+-- What is said of the end of a work has a spelling; the other effects say nothing of one.
+abbrev pub effect_fits : Effect → Bool
+effect_fits (Ends ended) = end_fits ended
+effect_fits _ = true
 
 -- ---- what the calls make of it
 

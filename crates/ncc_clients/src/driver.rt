@@ -3,12 +3,13 @@
 ghost use Rattle.std.specs.Prelude.{◌≡◌, ◌+◌, ◌<◌, ◌^◌, ◌++◌, ◌∷◌, ◌≤◌, [], List, Some, None, false};
 ghost use Rattle.std.specs.Prelude.{IfOk, IfSome, IfNone, OnOk, IsTrue};
 ghost use Rattle.ncc_driver.specs.Config.{config_fits};
+ghost use Rattle.ncc_driver.specs.Fitting.{action_fits};
 ghost use Rattle.ncc_driver.specs.Talk.{begun, is_working};
 ghost use Rattle.ncc_driver.specs.declared.action.Action.{Action as OneAction};
 ghost use Rattle.ncc_clients.specs.Links.{Driver as OneDriver, Link as OneLink, lift_bytes};
 ghost use Rattle.ncc_clients.specs.Drives.{is_busy, knows, lift_to, new_driver, sends, with_input};
 ghost use Rattle.ncc_clients.specs.Task.{job_of};
-ghost use Rattle.ncc_clients.specs.Held.{Does, Hears, IsDriver, IsLive, conn_in, effect_of, fallen, lifted, own, parts_by};
+ghost use Rattle.ncc_clients.specs.Held.{Does, Hears, IsDriver, IsLive, conn_in, effect_fits, effect_of, fallen, lifted, own, parts_by};
 ghost use Rattle.ncc_clients.specs.Held.{waiting_on, with_up};
 
 use crate::link::Link;
@@ -137,6 +138,8 @@ impl Driver {
             Does self.new d left effect)) }
         ensures none { IfOk result (λ o. IfNone o ((d : OneDriver) (left : List OneAction) → IsDriver self.old d left → left ≡ [])) }
         ensures same { IfOk result (λ o. IfNone o (self.new ≡ self.old)) }
+        // Where its work has ended, the rows fit, and bookmark and code have a spelling.
+        ensures fits { IfOk result (λ o. IfSome o (λ effect. IsTrue (effect_fits effect))) }
     {
         match self.session.next() {
             Some(action) => Ok(Some(self.act(action)?)),
@@ -145,8 +148,10 @@ impl Driver {
     }
 
     fn act(&mut self, action: Action) -> Result<Effect, Memory>
+        requires fits { IsTrue (action_fits action) }
         ensures ok { IfOk result (λ effect. (d : OneDriver) (left : List OneAction) → IsDriver self.old d left →
             IsDriver self.new (own d action) left × (effect ≡ effect_of d action)) }
+        ensures fits { IfOk result (λ effect. IsTrue (effect_fits effect)) }
     {
         match action {
             Action::Connect { address } => Ok(Effect::Joins { address }),
@@ -170,6 +175,7 @@ impl Driver {
 
     fn part(&mut self) -> Result<Effect, Memory>
         ensures ok { IfOk result (λ effect. (effect ≡ parts_by self.old.link) × (self.new ≡ record self.old { link = None })) }
+        ensures fits { IfOk result (λ effect. IsTrue (effect_fits effect)) }
     {
         let Some(link) = self.link.take() else {
             return Ok(Effect::Nothing);

@@ -81,11 +81,12 @@ committed config job now asked number told exact old new before after stood stan
 
 pub failed : (config : SessionConfig) (job : Job) (now : ℕ) (asked : Asked) (number : ℕ) (told exact : Told) (old new : Core)
     (before after : List Action) (stood stands : Rows → Type 0) (code : List ℕ) → told ≡ exact → told ≡ m.Failed code
-    → core_keeps old ≡ true → Makes (λ p. fails p now code) old new before after
+    → told_fits old.rows told ≡ true → core_keeps old ≡ true → Makes (λ p. fails p now code) old new before after
     → Behind config job now asked number exact old new before after stood stands
-failed config job now asked number told exact old new before after stood stands code e i k h =
+failed config job now asked number told exact old new before after stood stands code e i f k h =
     as_told config job now asked number told exact (m.Failed code) old new before after stood stands e i
-    (quiet_all config job now asked number (m.Failed code) old new before after stood stands refl k
+    (quiet_all config job now asked number (m.Failed code) old new before after stood stands
+    (fits_as old.rows told (m.Failed code) i f) k
     (fails_quiet (record { core = old; told = None }) now code) h)
 
 pub refuted : (config : SessionConfig) (job : Job) (now : ℕ) (asked : Asked) (number : ℕ) (told exact : Told) (old new : Core)
@@ -98,7 +99,7 @@ refuted config job now asked number told exact old new before after stood stands
 -- ---- where an answer is awaited still
 
 -- the work stands behind some rows, where it does at all
-some_behind : (asked : Asked) (stood : Rows → Type 0) → StandsAsked asked stood
+pub some_behind : (asked : Asked) (stood : Rows → Type 0) → StandsAsked asked stood
     → (told : Option Rows) × BehindAt (stage.Awaits asked) stood told
 some_behind (a.Shake leg) stood h = (None, tt)
 some_behind (a.Hello leg) stood h = (None, tt)

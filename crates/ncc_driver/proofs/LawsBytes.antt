@@ -1,7 +1,7 @@
 -- What a session is told by bytes has a spelling: so all that it presents, and each address that it connects to, has one.
 use Rattle.std.proofs.Common.{◌≡◌, ℕ, zero, suc, Bool, true, false, List, [], ◌∷◌, ◌++◌, length, take, drop, map}
 use Rattle.std.proofs.Common.{Option, Some, None, Result, Ok, Err, refl, sym, subst, arith}
-use Rattle.std.specs.Prelude.{if◌then◌else◌, nat_lt, codes}
+use Rattle.std.specs.Prelude.{if◌then◌else◌, nat_lt}
 use Rattle.std.specs.List.{AllByRecursion}
 use Rattle.ncc_pack.specs.declared.value.Value.{Value}
 use Rattle.ncc_pack.specs.declared.value.Value.TheVariants as v
@@ -42,7 +42,7 @@ use Rattle.ncc_driver.specs.declared.work.WorkStep.TheVariants as w
 use Rattle.ncc_driver.specs.Work.{Row, Job}
 use Rattle.ncc_driver.specs.Config.{config_fits}
 use Rattle.ncc_driver.specs.Keeping.{told_fits}
-use Rattle.ncc_driver.specs.Answers.{text_in, value_at, told_code, response_of}
+use Rattle.ncc_driver.specs.Answers.{response_of}
 use Rattle.ncc_driver.specs.State.{SessionState, new_core}
 use Rattle.ncc_driver.specs.Attempts.{at_core, finishes, refuses, retries, sleeps, is_spent, drops_table}
 use Rattle.ncc_driver.specs.Attempts.{is_transient, is_no_leader, joins, joins_server, joins_by, joins_router, router_of, one_more, role_of}
@@ -53,7 +53,7 @@ use Rattle.ncc_driver.specs.Session.{end_of, or_more, hears, on_input, on, ahead
 use Rattle.ncc_driver.specs.LawsFits.{AreBytes, InputBytes, ToldBytes}
 use Rattle.ncc_driver.proofs.Kept.{Kept, stage_kept, role_texts, table_kept, behind_kept, attempts_kept, loses_kept}
 use Rattle.ncc_driver.proofs.Kept.{picked_address, routers_fit, IsAddress, kept_of}
-use Rattle.ncc_driver.proofs.ToldFits.{success_fits, record_fits, meta_fits}
+use Rattle.ncc_driver.proofs.ToldFits.{success_fits, record_fits, code_fits, meta_fits, failure_fits}
 use Rattle.ncc_driver.proofs.LawsGrammar.{told_message}
 use Rattle.ncc_driver.proofs.LawsHearing.{next, hear, going_is, walk}
 use Rattle.ncc_driver.proofs.Talking.{new_keeps}
@@ -127,15 +127,12 @@ items_drop (suc n) (x ∷ items) h = items_drop n items h.1
 abbrev told_of : Asked → ℕ → List Row → Result Response MessageError → Told
 told_of asked now rows read = elim read [ Ok response ↦ response_of asked now rows response | Err cause ↦ says.Bad ]
 
-code_fits : (rows : List Row) (code : Option (List ℕ)) → told_fits rows (told_code code) ≡ true
-code_fits rows (Some code) = refl
-code_fits rows None = refl
-
 read_fits : (asked : Asked) (now : ℕ) (rows : List Row) (bytes : List ℕ) (read : Result Response MessageError) → IsBytes bytes
     → response_at bytes ≡ read → told_fits rows (told_of asked now rows read) ≡ true
 read_fits asked now rows bytes (Ok (s.Success meta)) h e =
     success_fits asked now meta rows (meta_fits (s.Success meta) meta bytes (response_taken bytes (s.Success meta) h e) refl)
-read_fits asked now rows bytes (Ok (s.Failure meta)) h e = code_fits rows (text_in (value_at (codes "code") meta))
+read_fits asked now rows bytes (Ok (s.Failure meta)) h e =
+    code_fits meta rows (failure_fits (s.Failure meta) meta bytes (response_taken bytes (s.Failure meta) h e) refl)
 read_fits asked now rows bytes (Ok (s.Row fields)) h e = record_fits asked rows fields
 read_fits asked now rows bytes (Ok s.Ignored) h e = refl
 read_fits asked now rows bytes (Err cause) h e = refl

@@ -271,12 +271,12 @@ within : (word n : ℕ) → 0 < n → word % n < n
 within word n l = omega arith
 
 -- Of texts, of which there are some, a word picks one.
-picks_text : (word : ℕ) (x : Value) (xs : List Value) → texts_alone (x ∷ xs) ≡ true
+pub picks_text : (word : ℕ) (x : Value) (xs : List Value) → texts_alone (x ∷ xs) ≡ true
     → (address : List ℕ) × (picked word (x ∷ xs) ≡ Some (v.Text address))
 picks_text word x xs t = text_at (x ∷ xs) (word % length (x ∷ xs)) t (within word (length (x ∷ xs)) (omega arith))
 
 abbrev pub TableTexts : Table → Type 0
-TableTexts table = (texts_alone table.write ≡ true) × (texts_alone table.read ≡ true)
+TableTexts table = (texts_alone table.write ≡ true) × (texts_alone table.read ≡ true) × (texts_alone table.route ≡ true)
 
 abbrev pub HasTexts : Option Table → Type 0
 HasTexts (Some table) = TableTexts table

@@ -105,7 +105,11 @@ addresses_good role (server ∷ servers) g =
 
 table_good_of : (now : ℕ) (seconds : Option ℕ) (servers : Option (List Served)) → GoodServers servers
     → HasTexts (table_of now seconds servers)
-table_good_of now (Some seconds) (Some servers) g = (addresses_good (codes "WRITE") servers g, addresses_good (codes "READ") servers g)
+table_good_of now (Some seconds) (Some servers) g = (
+  addresses_good (codes "WRITE") servers g,
+  addresses_good (codes "READ") servers g,
+  addresses_good (codes "ROUTE") servers g,
+)
 table_good_of now _ _ g = tt
 
 servers_good_at : (xs : Option (List Value)) → GoodServers (servers_at xs)

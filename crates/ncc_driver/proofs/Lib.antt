@@ -15,6 +15,7 @@ pub mod LawsMoments
 pub mod LawsCauses
 pub mod LawsTables
 pub mod LawsSane
+pub mod LawsLast
 pub mod LawsGrammar
 pub mod LegsTraced
 pub mod LegsTold
@@ -33,6 +34,7 @@ pub mod Picking
 pub mod Joining
 pub mod Following
 pub mod Behind
+pub mod EndsFit
 pub mod Moving
 pub mod Stepping
 pub mod Talking

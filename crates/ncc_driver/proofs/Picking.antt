@@ -25,7 +25,7 @@ use Rattle.ncc_driver.proofs.Kept.{named, left, right}
 
 -- ---- texts alone
 
-alone : (xs : List Value) → texts_fit xs ≡ true → texts_alone xs ≡ true
+pub alone : (xs : List Value) → texts_fit xs ≡ true → texts_alone xs ≡ true
 alone [] h = refl
 alone (x ∷ xs) h =
     let n = named x (left (text_has_spelling x) (texts_fit xs) h) in

@@ -69,7 +69,7 @@ session_last config works last =
     works_on config (new_state config) works (last ∷ []) ∙ ap (λ (r : Ran). ahead s.actions r) (one_work config s.state last)
 
 -- a session whose last work was told one thing more
-session_told : (config : SessionConfig) (works : List Begun) (last : Begun) (input : Input) (now : ℕ)
+pub session_told : (config : SessionConfig) (works : List Begun) (last : Begun) (input : Input) (now : ℕ)
     → session config (works ++ grown last input now ∷ [])
     ≡ (let r = session config (works ++ last ∷ []) in ahead r.actions (on config last.job now r.state input))
 session_told config works last input now =

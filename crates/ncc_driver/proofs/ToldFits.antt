@@ -31,7 +31,7 @@ use Rattle.ncc_driver.specs.Work.{Row, rows_fit}
 use Rattle.ncc_driver.specs.Answers.{value_at, text_in, list_by, pairs_by, list_in, pairs_in, if_texts, texts_in, seconds_in, is_true}
 use Rattle.ncc_driver.specs.Answers.{Served, server_of, server_by, server_in, one_more, servers_in, addresses_of, table_by, table_of}
 use Rattle.ncc_driver.specs.Answers.{servers_at}
-use Rattle.ncc_driver.specs.Answers.{table_by_pairs, table_in, told_table, told_bookmark, success_of, record_of}
+use Rattle.ncc_driver.specs.Answers.{table_by_pairs, table_in, told_table, told_bookmark, told_code, success_of, record_of}
 
 -- ---- values in dictionaries and lists
 
@@ -285,6 +285,11 @@ told_bookmark_fits : (rows : List Row) (o : Option (List ℕ)) → ((t : List �
 told_bookmark_fits rows (Some t) h = h t refl
 told_bookmark_fits rows None h = refl
 
+told_code_fits : (rows : List Row) (o : Option (List ℕ)) → ((t : List ℕ) → o ≡ Some t → fits (v.Text t) ≡ true)
+    → told_fits rows (told_code o) ≡ true
+told_code_fits rows (Some t) h = h t refl
+told_code_fits rows None h = refl
+
 done_or_bad : (rows : List Row) (b : Bool) → told_fits rows (if b then m.Bad else m.Done) ≡ true
 done_or_bad rows true = refl
 done_or_bad rows false = refl
@@ -303,6 +308,12 @@ success_fits a.Pull now meta rows h = done_or_bad rows (is_true (value_at (codes
 success_fits a.Commit now meta rows h =
     let mark = value_at (codes "bookmark") meta in
     told_bookmark_fits rows (text_in mark) (λ t e. text_at mark t 31 (value_fits (codes "bookmark") meta 31 (dict_items meta 31 h)) e)
+
+pub code_fits : (meta : Pairs) (rows : List Row) → fits (v.Dict meta) ≡ true
+    → told_fits rows (told_code (text_in (value_at (codes "code") meta))) ≡ true
+code_fits meta rows h =
+    let code = value_at (codes "code") meta in
+    told_code_fits rows (text_in code) (λ t e. text_at code t 31 (value_fits (codes "code") meta 31 (dict_items meta 31 h)) e)
 
 row_or_bad : (rows : List Row) (fields : Row) (b : Bool) → rows_fit (rows ++ fields ∷ []) ≡ b
     → told_fits rows (if b then m.Row fields else m.Bad) ≡ true
@@ -326,3 +337,11 @@ meta_fits _ meta _ (b.success qs e sp) is =
 meta_fits _ meta _ (b.row fields e sp) is = absurd (cc)
 meta_fits _ meta _ b.ignored is = absurd (cc)
 meta_fits _ meta _ (b.failure qs e sp) is = absurd (cc)
+
+pub failure_fits : (r : Response) (meta : Pairs) (bytes : List ℕ) → SpellsResponse r bytes → r ≡ s.Failure meta
+    → fits (v.Dict meta) ≡ true
+failure_fits _ meta _ (b.failure qs e sp) is =
+    let same : qs ≡ meta = cc in subst (λ (ps : Pairs). fits (v.Dict ps) ≡ true) same (spelled_fits 32 (v.Dict qs) e sp)
+failure_fits _ meta _ (b.success qs e sp) is = absurd (cc)
+failure_fits _ meta _ (b.row fields e sp) is = absurd (cc)
+failure_fits _ meta _ b.ignored is = absurd (cc)

@@ -30,9 +30,10 @@ abbrev pub as_text : Option (List ℕ) → Option Value
 as_text (Some text) = Some (v.Text text)
 as_text None = None
 
--- What an answer tells fits: a row behind these of the same answer, the addresses of a table, and a bookmark.
+-- What an answer tells fits: a row behind these of the same answer, the addresses of a table, a bookmark, and a code.
 abbrev pub told_fits : List Row → Told → Bool
 told_fits rows (m.Row fields) = rows_fit (rows ++ fields ∷ [])
 told_fits rows (m.Routed table) = addresses_fit table
 told_fits rows (m.Committed bookmark) = fits (v.Text bookmark)
+told_fits rows (m.Failed code) = fits (v.Text code)
 told_fits rows _ = true

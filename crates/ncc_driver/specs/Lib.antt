@@ -18,6 +18,8 @@ pub mod Answers
 pub mod Tables
 pub mod State
 pub mod Keeping
+pub mod Fitting
+pub mod LawsLast
 pub mod Attempts
 pub mod Ends
 pub mod Session

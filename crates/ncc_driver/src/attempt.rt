@@ -5,6 +5,7 @@ ghost use Rattle.ncc_driver.specs.Attempts as t;
 ghost use Rattle.ncc_route.specs.Routing as r;
 ghost use Rattle.ncc_driver.specs.Config.{texts_fit, config_fits};
 ghost use Rattle.ncc_driver.specs.Keeping.{as_text, core_keeps, table_fits, told_fits};
+ghost use Rattle.ncc_driver.specs.Fitting.{ends_fit};
 ghost use Rattle.ncc_driver.specs.declared.standing.Stage.TheVariants as stage;
 ghost use Rattle.ncc_driver.specs.State.{Makes, MakesAnew, MakesWith};
 ghost use Rattle.ncc_driver.specs.Requests.{asks};
@@ -301,10 +302,12 @@ pub fn answer<W: Work>(
     requires keeps { IsTrue (core_keeps core.old) }
     requires allowed { IsTrue (config_fits config.now) }
     requires stands { StandsAsked asked (W.stands work.old) }
+    requires ends { IsTrue (ends_fit queue.old.items) }
     ensures ok { OnOk result (MakesWith (W.stands work.old) (W.stands work.new)
         (λ p. t.behind config.now (job_by (W.writing work.old) (W.steps work.old)) now p asked number
         (told_by asked now core.old.rows item)) core.old core.new queue.old.items queue.new.items) }
     ensures keeps { OnOk result (IsTrue (core_keeps core.new)) }
+    ensures ends { OnOk result (IsTrue (ends_fit queue.new.items)) }
     ensures stands { OnOk result (StandsAt core.new.stage (W.stands work.new)) }
     ensures writing { W.writing work.new ≡ W.writing work.old }
     ensures steps { W.steps work.new ≡ W.steps work.old }

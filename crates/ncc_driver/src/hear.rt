@@ -6,6 +6,7 @@ ghost use Rattle.ncc_driver.specs.declared.standing.Stage.TheVariants as stage;
 ghost use Rattle.ncc_driver.specs.Config.{config_fits};
 ghost use Rattle.ncc_driver.specs.Hearing.{Hears, Moves, awaits_more};
 ghost use Rattle.ncc_driver.specs.Keeping.{core_keeps};
+ghost use Rattle.ncc_driver.specs.Fitting.{ends_fit};
 ghost use Rattle.ncc_driver.specs.Talk.{StandsAsked, StandsAt};
 ghost use Rattle.ncc_driver.specs.Work.{job_by};
 
@@ -34,9 +35,11 @@ fn answer_next<W: Work>(
     requires keeps { IsTrue (core_keeps core.old) }
     requires allowed { IsTrue (config_fits config.now) }
     requires stands { StandsAsked asked (W.stands work.old) }
+    requires ends { IsTrue (ends_fit queue.old.items) }
     ensures ok { IfOk result (λ more. Hears config.now (job_by (W.writing work.old) (W.steps work.old)) now
         (W.stands work.old) (W.stands work.new) core.old link.old queue.old.items core.new link.new queue.new.items more) }
     ensures keeps { OnOk result (IsTrue (core_keeps core.new)) }
+    ensures ends { OnOk result (IsTrue (ends_fit queue.new.items)) }
     ensures stands { OnOk result (StandsAt core.new.stage (W.stands work.new)) }
     ensures writing { W.writing work.new ≡ W.writing work.old }
     ensures steps { W.steps work.new ≡ W.steps work.old }
@@ -64,9 +67,11 @@ fn answer_all<W: Work>(
     requires keeps { IsTrue (core_keeps core.old) }
     requires allowed { IsTrue (config_fits config.now) }
     requires stands { StandsAt core.old.stage (W.stands work.old) }
+    requires ends { IsTrue (ends_fit queue.old.items) }
     ensures ok { OnOk result (Hears config.now (job_by (W.writing work.old) (W.steps work.old)) now
         (W.stands work.old) (W.stands work.new) core.old link.old queue.old.items core.new link.new queue.new.items false) }
     ensures keeps { OnOk result (IsTrue (core_keeps core.new)) }
+    ensures ends { OnOk result (IsTrue (ends_fit queue.new.items)) }
     ensures stands { OnOk result (StandsAt core.new.stage (W.stands work.new)) }
     ensures writing { W.writing work.new ≡ W.writing work.old }
     ensures steps { W.steps work.new ≡ W.steps work.old }
@@ -98,9 +103,11 @@ pub fn hear<W: Work>(
     requires keeps { IsTrue (core_keeps core.old) }
     requires allowed { IsTrue (config_fits config.now) }
     requires stands { StandsAt core.old.stage (W.stands work.old) }
+    requires ends { IsTrue (ends_fit queue.old.items) }
     ensures ok { OnOk result (Moves config.now (job_by (W.writing work.old) (W.steps work.old)) now (i.Bytes piece.now)
         (W.stands work.old) (W.stands work.new) core.old link.old queue.old.items core.new link.new queue.new.items) }
     ensures keeps { OnOk result (IsTrue (core_keeps core.new)) }
+    ensures ends { OnOk result (IsTrue (ends_fit queue.new.items)) }
     ensures stands { OnOk result (StandsAt core.new.stage (W.stands work.new)) }
     ensures writing { W.writing work.new ≡ W.writing work.old }
     ensures steps { W.steps work.new ≡ W.steps work.old }

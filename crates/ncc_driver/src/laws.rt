@@ -6,6 +6,7 @@ ghost use Rattle.ncc_driver.specs.LawsAnswers.{BadOutsideGrammar, FailedByCode, 
 ghost use Rattle.ncc_driver.specs.LawsEnds.{ActsByMoments, EndsExactly};
 ghost use Rattle.ncc_driver.specs.LawsFits.{SendsWhatFits, SendsWhatFitsToBytes};
 ghost use Rattle.ncc_driver.specs.LawsJoins.{ConnectsLast, JoinsBehindConnect, SucceedsOnBytes};
+ghost use Rattle.ncc_driver.specs.LawsLast.{WaitsByLast, GoesOnBehindAwaited};
 ghost use Rattle.ncc_driver.specs.LawsLeft.{SendsLower, LeftAtMost, BeginsSilent, AttemptSendsAtMost, AddHasTwo, PutHasOne, GetHasOne};
 ghost use Rattle.ncc_driver.specs.LawsLegs.{SendsByLegs, SendsOnLinks, SendsByLegsSince, EndsLast, CommitsByAnswer};
 ghost use Rattle.ncc_driver.specs.Worked.{DelaysDouble, SpentAtThirtySeconds, NextWorkBeginsAnew, RoutersTakeTurns};
@@ -80,6 +81,13 @@ pub fn attempts_send_so_much()
     ensures add { AddHasTwo }
     ensures put { PutHasOne }
     ensures get { GetHasOne }
+{}
+
+/// What a session waits for is told by the last thing that it wants done: behind a Connect the link, behind a Receive an answer, behind a
+/// Sleep its end, and behind a Finish nothing. At each input that it waits for it wants something more done.
+pub fn waits_by_last()
+    ensures last { WaitsByLast }
+    ensures goes_on { GoesOnBehindAwaited }
 {}
 
 /// Worked runs that come to no transaction: delays, the end of trying again, the next work, routers in turn, inputs that are passed over,

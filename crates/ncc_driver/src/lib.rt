@@ -21,8 +21,8 @@ mod works;
 pub use action::{Action, Input, Last, WorkDone, WorkError};
 pub use config::SessionConfig;
 pub use laws::{
-    cuts_change_only_receives, ends_exactly, presents_last, tells_by_grammar, waits_exactly,
-    worked_runs, worked_works,
+    cuts_change_only_receives, ends_exactly, presents_last, tells_by_grammar, waits_by_last,
+    waits_exactly, worked_runs, worked_works,
 };
 pub use ncc_route::{Auth, Role};
 pub use rows::{row_text, rows_fit};

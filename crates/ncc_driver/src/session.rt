@@ -6,6 +6,7 @@ ghost use Rattle.ncc_driver.specs.State.{new_core};
 ghost use Rattle.ncc_driver.specs.Work.{job_by};
 ghost use Rattle.ncc_driver.specs.Talk.{Stands, Begins, Tells, TellBreaks, StaysWith, HandsOut, AllOut, Shows, is_working, works_at};
 ghost use Rattle.ncc_driver.specs.Talk.{StandsAt};
+ghost use Rattle.ncc_driver.specs.Fitting.{action_fits};
 
 use crate::action::{Action, Input};
 use crate::config::SessionConfig;
@@ -51,8 +52,10 @@ impl Model for Session {
     ghost use Rattle.std.specs.Prelude.{◌≡◌, false, IsTrue};
     ghost use Rattle.ncc_driver.specs.Config.{config_fits};
     ghost use Rattle.ncc_driver.specs.Keeping.{core_keeps};
+    ghost use Rattle.ncc_driver.specs.Fitting.{ends_fit};
 
-    ghost invariant = { λ s. IsTrue (config_fits s.config) × (s.spent ≡ false → IsTrue (core_keeps s.core)) };
+    ghost invariant = { λ s. IsTrue (config_fits s.config)
+        × (s.spent ≡ false → IsTrue (core_keeps s.core) × IsTrue (ends_fit s.queue.items)) };
 }
 
 #[tactic(auto, unfolding(crate::specs::State::words_of, crate::specs::State::new_core))]
@@ -160,6 +163,8 @@ impl Session {
         ensures some { IfSome result (λ action. HandsOut self.old action self.new) }
         ensures none { IfNone result (self.new ≡ self.old) }
         ensures all { IfNone result (AllOut self.old) }
+        // Where it is the end of a work, its rows fit, and its texts have a spelling.
+        ensures fits { IfSome result (λ action. IsTrue (action_fits action)) }
         ensures spent { IsTrue self.old.spent → IfSome result (λ _. ⊥) }
     {
         if self.spent {

@@ -6,6 +6,7 @@ ghost use Rattle.ncc_driver.specs.declared.standing.Asked.TheVariants as a;
 ghost use Rattle.ncc_driver.specs.Config.{config_fits};
 ghost use Rattle.ncc_driver.specs.Hearing.{Moves};
 ghost use Rattle.ncc_driver.specs.Keeping.{core_keeps};
+ghost use Rattle.ncc_driver.specs.Fitting.{ends_fit};
 ghost use Rattle.ncc_driver.specs.Requests.{shakes};
 ghost use Rattle.ncc_driver.specs.Talk.{Keeps, StandsAt};
 ghost use Rattle.ncc_driver.specs.Work.{job_by};
@@ -53,9 +54,11 @@ pub fn turn<W: Work>(
     requires keeps { IsTrue (core_keeps core.old) }
     requires allowed { IsTrue (config_fits config.now) }
     requires stands { StandsAt core.old.stage (W.stands work.old) }
+    requires ends { IsTrue (ends_fit queue.old.items) }
     ensures ok { OnOk result (Moves config.now (job_by (W.writing work.old) (W.steps work.old)) now input.now
         (W.stands work.old) (W.stands work.new) core.old link.old queue.old.items core.new link.new queue.new.items) }
     ensures keeps { OnOk result (IsTrue (core_keeps core.new)) }
+    ensures ends { OnOk result (IsTrue (ends_fit queue.new.items)) }
     ensures stands { OnOk result (StandsAt core.new.stage (W.stands work.new)) }
     ensures writing { W.writing work.new ≡ W.writing work.old }
     ensures steps { W.steps work.new ≡ W.steps work.old }

@@ -5,8 +5,6 @@ pub mod Lines
 pub mod SessionLines
 pub mod RaftLines
 pub mod Scripts
-pub mod DriverRows
-pub mod WorksFit
 pub mod OneEnd
 pub mod Ends
 pub mod Spelling

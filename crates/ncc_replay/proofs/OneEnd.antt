@@ -7,7 +7,6 @@ use Rattle.ncc_world.specs.declared.event.Event.{Event}
 use Rattle.ncc_world.specs.Happening.{WorldRun, start_of, refusal, Happens, RunsOn}
 use Rattle.ncc_clients.specs.Reads.{SessionsReadTheirWrites}
 use Rattle.ncc_world.specs.Headline.{EveryRunKeeps, Headline, OneRun, AllMayHappen}
-use Rattle.ncc_world.specs.Showing.{works_of}
 use Rattle.ncc_world.specs.Setting.{IsSetup}
 use Rattle.ncc_replay.specs.Line.{SaysNone, SaysCluster, IsCause, IsRightBut, first_word, is_verb, is_skipped}
 use Rattle.ncc_replay.specs.Script.{Script, End, refused, Lines, IsRefusedFor, EventLines}
@@ -18,10 +17,7 @@ use Rattle.ncc_replay.specs.declared.status.Cause.TheVariants as c
 use Rattle.ncc_replay.specs.declared.status.Cause.TheVariants.{BadLine, BadBookmark, UnknownVerb, NoCluster}
 use Rattle.ncc_replay.proofs.Lines.{says_one, says_one_cluster, right_known}
 use Rattle.ncc_replay.proofs.Lines.{cluster_first, first_of_line}
-use Rattle.ncc_replay.specs.Replay.{OfRun}
-use Rattle.ncc_replay.specs.Report.{WorksFit}
 use Rattle.ncc_replay.proofs.Scripts.{may_happen}
-use Rattle.ncc_replay.proofs.WorksFit.{works_fit}
 
 true_false : (b : Bool) → b ≡ true → b ≡ false → ⊥
 true_false b e f = cc
@@ -400,8 +396,3 @@ pub text_reads : EveryRunKeeps → (text : List ℕ) (s : Script) (t : Option Wo
 text_reads keeps text s t end is setup r e f =
     let run = script_run (numbered text) s t end setup r is e f in
     (keeps setup s.events r run.allowed run.runs).sessions_read_their_writes run.may_happen
-
--- the rows of the works that have ended in it have a spelling
-pub text_fits : (text : List ℕ) (s : Script) (t : Option WorldRun) (end : End) → IsText text s t end
-    → OfRun (λ setup events run. WorksFit (works_of run)) s t
-text_fits text s t end is = λ setup r e f. works_fit setup s.events r (script_run (numbered text) s t end setup r is e f).runs

@@ -1,7 +1,7 @@
 -- The report of a run, as text.
-use Rattle.std.specs.Prelude.{ℕ, ◌+◌, Bool, true, ◌&&◌, if◌then◌else◌, List, [], ◌∷◌, ◌++◌, length, codes, decimal}
-use Rattle.std.specs.Prelude.{Option, None, Some, Result, Ok, Err, IsTrue}
-use Rattle.std.specs.List.{All, flat_map}
+use Rattle.std.specs.Prelude.{ℕ, ◌+◌, Bool, ◌&&◌, if◌then◌else◌, List, [], ◌∷◌, ◌++◌, length, codes, decimal}
+use Rattle.std.specs.Prelude.{Option, None, Some, Result, Ok, Err}
+use Rattle.std.specs.List.{flat_map}
 use Rattle.std.specs.Str.{bytes_eq}
 use Rattle.ncc_pack.specs.declared.value.Value.{Value}
 use Rattle.ncc_pack.specs.declared.value.Value.TheVariants as v
@@ -25,7 +25,6 @@ use Rattle.ncc_driver.specs.declared.action.WorkError.TheVariants.{RetriesSpent,
 use Rattle.ncc_driver.specs.declared.action.Last.{Last}
 use Rattle.ncc_driver.specs.declared.action.Last.TheVariants.{Code, LinkLost, NoServer}
 use Rattle.ncc_driver.specs.RowText.{text_of}
-use Rattle.ncc_driver.specs.Work.{rows_fit}
 use Rattle.ncc_clients.specs.declared.told.Told.{Told}
 use Rattle.ncc_world.specs.declared.setup.Setup.{Setup}
 use Rattle.ncc_world.specs.declared.seen.Shown.{Shown}
@@ -113,14 +112,6 @@ result_text (Err error) = error_text error
 -- `work LINE SESSION TEXT`
 unfoldable pub work_line : WorkSeen → List ℕ
 work_line w = codes "work" ++ (spaced w.line ++ (spaced w.session ++ (result_text w.result ++ codes "\n")))
-
--- the rows of a work that was committed have a spelling
-abbrev pub result_fits : Result WorkDone WorkError → Bool
-result_fits (Ok done) = rows_fit done.rows
-result_fits (Err error) = true
-
-abbrev pub WorksFit : List WorkSeen → Type 0
-WorksFit works = All (λ (w : WorkSeen). IsTrue (result_fits w.result)) works
 
 -- ---- connections
 

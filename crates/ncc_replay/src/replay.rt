@@ -10,8 +10,7 @@ ghost use Rattle.ncc_world.specs.declared.error.Which.{Which as Limits};
 ghost use Rattle.ncc_world.specs.Happening.{WorldRun};
 ghost use Rattle.ncc_world.specs.Headline.{MembersAgree, FactsAreLawful, AllGoOn, AfterEach};
 ghost use Rattle.ncc_world.specs.Setting.{cluster_of};
-ghost use Rattle.ncc_world.specs.Showing.{works_of};
-ghost use Rattle.ncc_replay.specs.Report.{WorksFit, report_text};
+ghost use Rattle.ncc_replay.specs.Report.{report_text};
 ghost use Rattle.ncc_replay.specs.Script.{Script, IsText, whole, refused, limited};
 ghost use Rattle.ncc_replay.specs.Progress.{IsRunOf};
 ghost use Rattle.ncc_replay.specs.Replay.{Reads, ReadsUpTo, Passes, IsGiven, OfRun, MayEnd};
@@ -40,8 +39,7 @@ fn are_run_words(words: &Words) -> bool
 
 // The report of a run, or of none.
 fn append_report(world: &Option<World>, into: &mut Bytes) -> Result<(), AllocError>
-    ensures { (s : Script) (t : Option WorldRun) → IsRunOf world.now s t → OfRun (λ setup events run. WorksFit (works_of run)) s t →
-        OnOk result (into.new ≡ into.old ++ report_text s t) }
+    ensures { (s : Script) (t : Option WorldRun) → IsRunOf world.now s t → OnOk result (into.new ≡ into.old ++ report_text s t) }
 {
     match world {
         Some(world) => report(world, into),

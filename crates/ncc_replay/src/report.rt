@@ -19,11 +19,10 @@ ghost use Rattle.ncc_world.specs.Requests.{put_source};
 ghost use Rattle.ncc_world.specs.Events.{is_word};
 ghost use Rattle.ncc_world.specs.Happening.{WorldRun};
 ghost use Rattle.ncc_world.specs.Spellable.{AllAllowed, AllFit, rows_fit};
-ghost use Rattle.ncc_world.specs.Showing.{works_of};
 ghost use Rattle.ncc_world.specs.World.{Stands};
 ghost use Rattle.ncc_replay.specs.Report.{spaced, rows_text, rows_hex, fault_text, fact_text, fact_line, role_text, member_line};
 ghost use Rattle.ncc_replay.specs.Report.{conn_state, conn_line, out_text, out_line, parts_of, put_parts, entry_text, valid_text};
-ghost use Rattle.ncc_replay.specs.Report.{place_line, place_lines, history_text, WorksFit, report_of};
+ghost use Rattle.ncc_replay.specs.Report.{place_line, place_lines, history_text, report_of};
 ghost use Rattle.ncc_replay.specs.Line.{hex};
 
 use crate::hex::append_hex;
@@ -457,11 +456,9 @@ fn append_history(world: &World, into: &mut Bytes) -> Result<(), AllocError>
     append_places(world, world.history().as_slice(), into)
 }
 
-/// Appends the report of the run that the world stands for, in which the rows of each work fit, as in every run from its beginning they do.
-/// An `Err` leaves a front of it.
+/// Appends the report of the run that the world stands for. An `Err` leaves a front of it.
 pub fn report(world: &World, into: &mut Bytes) -> Result<(), AllocError>
-    ensures appended { (r : WorldRun) → Stands world.now r → WorksFit (works_of r) →
-        OnOk result (into.new ≡ into.old ++ report_of world.now.setup r) }
+    ensures appended { (r : WorldRun) → Stands world.now r → OnOk result (into.new ≡ into.old ++ report_of world.now.setup r) }
 {
     into.extend(b"ncc-report 1\n")?;
     append_told(world.told().as_slice(), into)?;

@@ -4,11 +4,13 @@
 ghost use Rattle.std.specs.Prelude.{◌≡◌, ◌++◌, OnOk, IsTrue, codes};
 ghost use Rattle.std.specs.List.{flat_map};
 ghost use Rattle.ncc_driver.specs.RowText.{text_of};
+ghost use Rattle.ncc_driver.specs.Fitting.{end_fits};
 ghost use Rattle.ncc_driver.specs.Work as w;
-ghost use Rattle.ncc_replay.specs.Report.{bookmark_text, last_text, done_text, error_text, result_text, work_line, result_fits, WorksFit};
+ghost use Rattle.ncc_world.specs.Spellable.{WorksFit};
+ghost use Rattle.ncc_replay.specs.Report.{bookmark_text, last_text, done_text, error_text, result_text, work_line};
 
 use crate::number::append_number;
-use ncc_driver::{row_text, rows_fit};
+use ncc_driver::row_text;
 use ncc_pack::{Bytes, Rows};
 use ncc_world::{Last, WorkDone, WorkError, WorkSeen};
 use std::alloc::AllocError;
@@ -23,13 +25,11 @@ fn append_place(place: Option<u64>, into: &mut Bytes) -> Result<(), AllocError>
     }
 }
 
-// Rows have a text where they fit, as those of each work do that has ended in a run.
+// Rows that fit have a text.
 fn append_rows(rows: &Rows, into: &mut Bytes) -> Result<(), AllocError>
-    ensures { IsTrue (w.rows_fit rows.now) → OnOk result (into.new ≡ into.old ++ (codes " " ++ text_of rows.now)) }
+    requires { IsTrue (w.rows_fit rows.now) }
+    ensures { OnOk result (into.new ≡ into.old ++ (codes " " ++ text_of rows.now)) }
 {
-    if !rows_fit(rows) {
-        return Ok(());
-    }
     let text = row_text(into.allocator(), rows)?;
     into.extend(b" ")?;
     into.extend(text.as_str().as_bytes())
@@ -37,7 +37,8 @@ fn append_rows(rows: &Rows, into: &mut Bytes) -> Result<(), AllocError>
 
 // A work that was committed.
 fn append_done(done: &WorkDone, into: &mut Bytes) -> Result<(), AllocError>
-    ensures { IsTrue (w.rows_fit done.now.rows) → OnOk result (into.new ≡ into.old ++ done_text done.now) }
+    requires { IsTrue (w.rows_fit done.now.rows) }
+    ensures { OnOk result (into.new ≡ into.old ++ done_text done.now) }
 {
     into.extend(b" ok")?;
     append_number(done.attempts, into)?;
@@ -84,7 +85,8 @@ fn append_error(error: &WorkError, into: &mut Bytes) -> Result<(), AllocError>
 
 // How a work has ended.
 fn append_result(ended: &Result<WorkDone, WorkError>, into: &mut Bytes) -> Result<(), AllocError>
-    ensures { IsTrue (result_fits ended.now) → OnOk result (into.new ≡ into.old ++ result_text ended.now) }
+    requires { IsTrue (end_fits ended.now) }
+    ensures { OnOk result (into.new ≡ into.old ++ result_text ended.now) }
 {
     match ended {
         Ok(done) => append_done(done, into),
@@ -95,7 +97,8 @@ fn append_result(ended: &Result<WorkDone, WorkError>, into: &mut Bytes) -> Resul
 // The line of a work that has ended.
 #[tactic(auto, using(std::proofs::lemmas::List::append_assoc), unfolding(crate::specs::Report::work_line))]
 fn append_work(work: &WorkSeen, into: &mut Bytes) -> Result<(), AllocError>
-    ensures { IsTrue (result_fits work.now.result) → OnOk result (into.new ≡ into.old ++ work_line work.now) }
+    requires { IsTrue (end_fits work.now.result) }
+    ensures { OnOk result (into.new ≡ into.old ++ work_line work.now) }
 {
     into.extend(b"work")?;
     append_number(work.line, into)?;
@@ -106,7 +109,8 @@ fn append_work(work: &WorkSeen, into: &mut Bytes) -> Result<(), AllocError>
 
 /// The lines of the works that have ended.
 pub(crate) fn append_works(works: &[WorkSeen], into: &mut Bytes) -> Result<(), AllocError>
-    ensures { WorksFit works.now → OnOk result (into.new ≡ into.old ++ flat_map work_line works.now) }
+    requires { WorksFit works.now }
+    ensures { OnOk result (into.new ≡ into.old ++ flat_map work_line works.now) }
 {
     for work in works {
         append_work(work, into)?;

@@ -1,12 +1,12 @@
 //! What one session of a world does and hears. Of all that the sessions keep, what becomes of the others does not change.
 
-ghost use Rattle.std.specs.Prelude.{◌≡◌, ◌+◌, ◌<◌, ◌≤◌, ◌^◌, ◌++◌, ◌∷◌, [], ℕ, List, Some, None, false, length, slice_get, IfOk, IfSome, IfNone, OnOk};
+ghost use Rattle.std.specs.Prelude.{◌≡◌, ◌+◌, ◌<◌, ◌≤◌, ◌^◌, ◌++◌, ◌∷◌, [], ℕ, List, Some, None, false, length, slice_get, IfOk, IfSome, IfNone, OnOk, IsTrue};
 ghost use Rattle.ncc_driver.specs.declared.action.Action.{Action as OneAction};
 ghost use Rattle.ncc_driver.specs.Talk.{begun};
 ghost use Rattle.ncc_clients.specs.Links.{Driver as OneDriver, Driving, Link as OneLink, lift_bytes};
 ghost use Rattle.ncc_clients.specs.Drives.{is_busy, knows, lift_to, more, with_input};
 ghost use Rattle.ncc_clients.specs.Task.{job_of};
-ghost use Rattle.ncc_clients.specs.Held.{conn_in, effect_of, fallen, lifted, own, with_up};
+ghost use Rattle.ncc_clients.specs.Held.{conn_in, effect_fits, effect_of, fallen, lifted, own, with_up};
 ghost use Rattle.ncc_world.specs.Drivers.{AreAtWork, Becomes, DoesFirst, with_one};
 ghost use Rattle.ncc_world.specs.Parts.{drivers_in};
 ghost use Rattle.ncc_world.specs.declared.setup.Setup.{Setup as Setups};
@@ -25,6 +25,7 @@ impl Drivers {
         ensures none { IfOk result (λ o. IfNone o ((s : Setups) (now : ℕ) (driving : Driving) (left : List OneAction) (pending : List ℕ) →
             AreAtWork s index left pending (drivers_in self.old) now driving → left ≡ [])) }
         ensures same { IfOk result (λ o. IfNone o (self.new ≡ self.old)) }
+        ensures fits { IfOk result (λ o. IfSome o (λ effect. IsTrue (effect_fits effect))) }
         ensures count { length self.new.list.items ≡ length self.old.list.items }
     {
         self.list[index].next()

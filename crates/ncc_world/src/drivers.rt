@@ -1,9 +1,10 @@
 //! The sessions of drivers of a world.
 
-ghost use Rattle.std.specs.Prelude.{◌≡◌, ◌+◌, ◌-◌, ◌<◌, ◌≤◌, ℕ, ◌∷◌, [], List, Some, None, length, nat_eq, slice_get, IfOk, OnOk};
+ghost use Rattle.std.specs.Prelude.{◌≡◌, ◌+◌, ◌-◌, ◌<◌, ◌≤◌, ℕ, ◌∷◌, [], List, Some, None, length, nat_eq, slice_get, IfOk, OnOk, IsTrue};
 ghost use Rattle.std.specs.List.{list_any};
 ghost use Rattle.indexmap.specs.IndexSet.{keys};
 ghost use Rattle.ncc_driver.specs.declared.action.Action.{Action as OneAction};
+ghost use Rattle.ncc_driver.specs.Fitting.{end_fits};
 ghost use Rattle.ncc_clients.specs.Links.{Driver as OneDriver, Driving, nobody_drives};
 ghost use Rattle.ncc_clients.specs.Drives.{is_named, named_from};
 ghost use Rattle.ncc_world.specs.Setting.{IsSetup};
@@ -11,9 +12,11 @@ ghost use Rattle.ncc_world.specs.Happening.{config_of};
 ghost use Rattle.ncc_world.specs.Drivers.{AreAtWork, IsAwake, due_from, ended_as, has_session, joined_as, refuses_work};
 ghost use Rattle.ncc_world.specs.Drivers.{with_one, with_session};
 ghost use Rattle.ncc_world.specs.Parts.{drivers_in};
+ghost use Rattle.ncc_world.specs.Spellable.{WorksFit};
 ghost use Rattle.ncc_world.specs.declared.setup.Setup.{Setup as Setups};
 
 use crate::config::addresses;
+use crate::ended::Ended;
 use crate::error::WorldError;
 use crate::seen::{WorkList, WorkSeen};
 use crate::setup::Setup;
@@ -34,7 +37,7 @@ pub(crate) struct Drivers {
     sleepers: Room,
     // The numbers of the connections that sessions made.
     linked: IndexSet<u64>,
-    works: WorkList,
+    works: Ended,
 }
 
 // Nobody reaches this place, so who waits for it is only ever late.
@@ -60,7 +63,7 @@ impl Drivers {
             names: addresses(alloc, setup.cores + setup.replicas, 1)?,
             sleepers: Room::new(alloc)?,
             linked: IndexSet::new(alloc),
-            works: Sequence::new(alloc),
+            works: Ended::new(alloc),
         })
     }
 
@@ -186,6 +189,7 @@ impl Drivers {
         ended: Result<WorkDone, WorkError>,
     ) -> Result<(), Memory>
         requires there { index < length self.old.list.items }
+        requires fits { IsTrue (end_fits ended) }
         ensures ok { OnOk result ((s : Setups) (now : ℕ) (driving : Driving) (d : OneDriver) (left : List OneAction) (pending : List ℕ) →
             AreAtWork s index left pending (drivers_in self.old) now driving →
             AreAtWork s index left pending (drivers_in self.new) now (ended_as line index d ended driving)) }
@@ -201,7 +205,8 @@ impl Drivers {
     /// The works that have ended, the first first.
     pub(crate) fn works(&self) -> &WorkList
         ensures exact { result.now ≡ self.now.works }
+        ensures fit { WorksFit result.now }
     {
-        &self.works
+        self.works.works()
     }
 }

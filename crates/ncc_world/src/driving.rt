@@ -6,7 +6,7 @@ ghost use Rattle.ncc_clients.specs.Links.{Driver as OneDriver, Link as OneLink, 
 ghost use Rattle.ncc_clients.specs.Drives.{begins, closes, cuts, does_all, does_by, down_at, driver_at, falls, feeds, joined, joins_named, last_of};
 ghost use Rattle.ncc_clients.specs.Drives.{lifts, member_named, rises, told_input, wakes_all, woken};
 ghost use Rattle.ncc_driver.specs.LawsFits.{AreBytes};
-ghost use Rattle.ncc_clients.specs.Held.{Held, effect_of, waiting_on};
+ghost use Rattle.ncc_clients.specs.Held.{Held, effect_fits, effect_of, waiting_on};
 ghost use Rattle.ncc_world.specs.Setting.{IsSetup, cluster_of};
 ghost use Rattle.ncc_world.specs.Events.{MayBegin};
 ghost use Rattle.ncc_world.specs.Happening.{WorldRun, is_busy_at, meant};
@@ -104,6 +104,7 @@ impl Running {
         effect: Effect,
     ) -> Result<Option<Input>, Memory>
         requires allowed { IsSetup setup.now }
+        requires fits { IsTrue (effect_fits effect) }
         requires live { HasMid setup.now index self.old }
         ensures ok { IfOk result (λ told. (r : WorldRun) (d : OneDriver) (action : OneAction) (behind : List OneAction) (pending : List ℕ) →
             driver_at r index ≡ Some d → RunsMid setup.now index behind pending self.old (with_own r index d action) →

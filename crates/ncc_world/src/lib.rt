@@ -10,6 +10,7 @@ mod config;
 mod drivers;
 mod driving;
 mod earlier;
+mod ended;
 mod error;
 mod event;
 mod laws;

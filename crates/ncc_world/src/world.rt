@@ -8,7 +8,7 @@ ghost use Rattle.ncc_world.specs.declared.error.WorldError.{WorldError as WorldE
 ghost use Rattle.ncc_world.specs.declared.error.Which.{Which as Limits};
 ghost use Rattle.ncc_world.specs.Setting.{IsSetup, lists_of, list_at};
 ghost use Rattle.ncc_world.specs.Events.{MayHappen};
-ghost use Rattle.ncc_world.specs.Spellable.{AllAllowed, AllFit};
+ghost use Rattle.ncc_world.specs.Spellable.{AllAllowed, AllFit, WorksFit};
 ghost use Rattle.ncc_world.specs.Happening.{WorldRun, Happens, start_of, refusal, is_member};
 ghost use Rattle.ncc_world.specs.Showing.{members_of, conns_of, works_of};
 ghost use Rattle.ncc_world.specs.World.{Stands, past, spent, is_refusal};
@@ -147,6 +147,8 @@ impl World {
     /// The works that have ended, the first first. It takes no memory.
     pub fn works(&self) -> &WorkList
         ensures works { (r : WorldRun) → Stands self.now r → result.now ≡ works_of r }
+        // The rows of each fit, and its bookmark or code has a spelling, however the events went.
+        ensures fit { WorksFit result.now }
     {
         self.run.drivers.works()
     }

@@ -10,6 +10,7 @@ pub turns-init : goal.turns-init
 turns-init g c = record {
   goes = goes_none _ _ _ _ _ _ (makes_none _) (clock_none _);
   stands = c.requires.stands;
+  more = c.requires.more;
   writing = refl;
   steps = refl;
   losses = omega arith;
@@ -27,6 +28,7 @@ turns-preserved g c = record {
       c.in-Ok.ensures.ok (λ xs ys h k. makes_on _ _ _ xs ys h k) (λ xs ys h k. clock_on _ _ _ xs ys h k)
       (λ h. rose_more _ _ _ h c.turn.ensures.losses) (λ h. rose_before _ _ _ c.turns.invariant.losses h);
   stands = c.in-Ok.ensures.stands;
+  more = c.in-Ok.ensures.more;
   writing = c.turn.ensures.writing ∙ c.turns.invariant.writing;
   steps = c.turn.ensures.steps ∙ c.turns.invariant.steps;
   losses = let k = c.turn.ensures.losses in let l = c.turns.invariant.losses in omega arith;
@@ -35,6 +37,7 @@ turns-preserved g c = record {
 
 pub returns-in-Err : goal.returns-in-Err
 returns-in-Err g c = record {
+  fits = c.in-Err.ensures.fits;
   stops = goes_stops _ _ _ _ _ _ _ _ _ _ _ _ _ _ _ _ (same_job _ _ _ _ c.turns.invariant.writing c.turns.invariant.steps)
       c.turns.invariant.goes c.in-Err.ensures.err (λ xs ys h k. makes_on _ _ _ xs ys h k) (λ xs ys h k. clock_on _ _ _ xs ys h k)
       (λ h. rose_more _ _ _ h c.turn.ensures.losses) (λ h. rose_before _ _ _ c.turns.invariant.losses h);
@@ -42,6 +45,7 @@ returns-in-Err g c = record {
 
 pub returns : goal.returns
 returns g c = record {
+  fits = tt;
   stops = goes_stops _ _ _ _ _ _ _ _ _ _ _ _ _ _ _ _ (same_job _ _ _ _ c.turns.invariant.writing c.turns.invariant.steps)
       c.turns.invariant.goes
       (stops_here _ _ (λ calls. MakesMore (g.L.Links.calls c.turns.links) (g.L.Links.calls c.turns.links) calls)

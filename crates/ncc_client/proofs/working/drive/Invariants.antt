@@ -1,4 +1,4 @@
-use Rattle.std.proofs.Common.{◌≡◌, ◌≤◌, ℕ, List}
+use Rattle.std.proofs.Common.{◌≡◌, ◌≢◌, ◌≤◌, ℕ, List, []}
 use Rattle.ncc_base.specs.Clock.{Tells}
 use Rattle.ncc_base.specs.Faults.{Rose}
 use Rattle.ncc_driver.specs.Work.{job_by}
@@ -14,6 +14,7 @@ invariant-turns g l = record {
       (λ (moments : List ℕ). Tells (g.C.Clock.told l.fn.clock) (g.C.Clock.told l.clock) moments)
       (Rose (g.L.Links.losses l.fn.links) (g.L.Links.losses l.links)) l.fn.session l.session;
   stands : StandsAt l.session.core.stage (g.W.Work.stands l.work);
+  more : l.session.queue ≢ [];
   writing : g.W.Work.writing l.work ≡ g.W.Work.writing l.fn.work;
   steps : g.W.Work.steps l.work ≡ g.W.Work.steps l.fn.work;
   losses : g.L.Links.losses l.fn.links ≤ g.L.Links.losses l.links;

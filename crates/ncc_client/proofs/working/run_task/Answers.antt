@@ -8,6 +8,7 @@ use Rattle.ncc_client.proofs.working.run_task.Goals as goal
 
 pub returns-in-Add : goal.returns-in-Add
 returns-in-Add g c = record {
+  fits = c.run.ensures.fits;
   worked = as_job _ _ _ _ _ _ _
       (same_job _ _ _ _ c.new-work.ensures.writes c.new-work.ensures.steps
       ∙ ap (λ (z : ℤ). job_by true (add_steps c.in-Add.key z)) (search rules) ∙ ap job_of (sym c.in-Add.is))
@@ -16,6 +17,7 @@ returns-in-Add g c = record {
 
 pub returns-in-Put : goal.returns-in-Put
 returns-in-Put g c = record {
+  fits = c.run-in-Put.ensures.fits;
   worked = as_job _ _ _ _ _ _ _
       (same_job _ _ _ _ c.new-work-in-Put.ensures.writes c.new-work-in-Put.ensures.steps ∙ ap job_of (sym c.in-Put.is))
       c.run-in-Put.ensures.worked;
@@ -23,6 +25,7 @@ returns-in-Put g c = record {
 
 pub returns-in-Get : goal.returns-in-Get
 returns-in-Get g c = record {
+  fits = c.run-in-Get.ensures.fits;
   worked = as_job _ _ _ _ _ _ _
       (same_job _ _ _ _ c.new-work-in-Get.ensures.reads c.new-work-in-Get.ensures.steps ∙ ap job_of (sym c.in-Get.is))
       c.run-in-Get.ensures.worked;

@@ -1,6 +1,7 @@
 use Rattle.std.proofs.lemmas.Result.{on_ok_weaker}
 use Rattle.ncc_driver.specs.Work.{job_by}
 use Rattle.ncc_driver.proofs.Behind.{routed, committed, failed, refuted, follow_keeps, row_keeps}
+use Rattle.ncc_driver.proofs.EndsFit.{follow_fits, routed_fits, committed_fits, failed_fits, refuted_fits}
 use Rattle.ncc_driver.proofs.attempt.answer.Goals as goal
 
 pub returns-in-Done-clause-keeps : goal.returns-in-Done-clause-keeps
@@ -83,7 +84,7 @@ returns-in-Failed-clause-ok g c =
     c.args.number
     c.in_ok-told_by.field-0 _ c.args.core.now c.fail.new.core _ _ (g.W.Work.stands c.args.work.now) (g.W.Work.stands c.args.work.now) _
     c.in_ok-told_by.ensures.exact
-    c.in-Failed.is c.requires.keeps m).ok)
+    c.in-Failed.is c.in_ok-told_by.ensures.fits c.requires.keeps m).ok)
     c.fail.ensures.ok
 
 pub returns-in-Failed-clause-keeps : goal.returns-in-Failed-clause-keeps
@@ -93,7 +94,7 @@ returns-in-Failed-clause-keeps g c =
     c.args.number
     c.in_ok-told_by.field-0 _ c.args.core.now c.fail.new.core _ _ (g.W.Work.stands c.args.work.now) (g.W.Work.stands c.args.work.now) _
     c.in_ok-told_by.ensures.exact
-    c.in-Failed.is c.requires.keeps m).keeps)
+    c.in-Failed.is c.in_ok-told_by.ensures.fits c.requires.keeps m).keeps)
     c.fail.ensures.ok
 
 pub returns-in-Failed-clause-stands : goal.returns-in-Failed-clause-stands
@@ -103,7 +104,7 @@ returns-in-Failed-clause-stands g c =
     c.args.number
     c.in_ok-told_by.field-0 _ c.args.core.now c.fail.new.core _ _ (g.W.Work.stands c.args.work.now) (g.W.Work.stands c.args.work.now) _
     c.in_ok-told_by.ensures.exact
-    c.in-Failed.is c.requires.keeps m).still)
+    c.in-Failed.is c.in_ok-told_by.ensures.fits c.requires.keeps m).still)
     c.fail.ensures.ok
 
 pub returns-in-Bad-clause-ok : goal.returns-in-Bad-clause-ok
@@ -135,3 +136,36 @@ returns-in-Bad-clause-stands g c =
     c.in_ok-told_by.ensures.exact
     c.in-Bad.is c.requires.keeps m).still)
     c.refute.ensures.ok
+
+pub returns-in-Done-clause-ends : goal.returns-in-Done-clause-ends
+returns-in-Done-clause-ends g c =
+    on_ok_weaker c.follow.result
+    (follow_fits c.args.config.now (job_by (g.W.Work.writing c.args.work.now) (g.W.Work.steps c.args.work.now)) c.args.asked
+    c.args.core.now c.follow.new.core _ _ (g.W.Work.stands c.args.work.now) (g.W.Work.stands c.follow.new.work) c.requires.at
+    c.requires.stands c.requires.ends)
+    c.follow.ensures.ok
+
+pub returns-in-Routed-clause-ends : goal.returns-in-Routed-clause-ends
+returns-in-Routed-clause-ends g c =
+    on_ok_weaker c.keep_table.result
+    (routed_fits c.writes.result c.args.now c.in-Routed.table c.args.core.now c.keep_table.new.core _ _ c.requires.ends)
+    c.keep_table.ensures.ok
+
+pub returns-in-Committed-clause-ends : goal.returns-in-Committed-clause-ends
+returns-in-Committed-clause-ends g c =
+    on_ok_weaker c.succeed.result
+    (committed_fits c.args.core.now c.succeed.new.core _ _ c.in_ok-told_by.field-0 c.in-Committed.bookmark c.in-Committed.is
+    c.in_ok-told_by.ensures.fits c.requires.keeps c.requires.ends)
+    c.succeed.ensures.ok
+
+pub returns-in-Failed-clause-ends : goal.returns-in-Failed-clause-ends
+returns-in-Failed-clause-ends g c =
+    on_ok_weaker c.fail.result
+    (failed_fits c.args.now c.args.core.now c.fail.new.core _ _ c.in_ok-told_by.field-0 c.in-Failed.code c.in-Failed.is
+    c.in_ok-told_by.ensures.fits c.requires.ends)
+    c.fail.ensures.ok
+
+pub returns-in-Bad-clause-ends : goal.returns-in-Bad-clause-ends
+returns-in-Bad-clause-ends g c =
+    on_ok_weaker c.refute.result
+    (refuted_fits c.args.number c.args.core.now c.refute.new.core _ _ c.requires.ends) c.refute.ensures.ok

@@ -9,6 +9,7 @@ returns-in_default g c = record {
       (g.W.Work.stands c.args.work.now) (g.W.Work.stands c.items.work) c.args.core.now c.items.core c.args.link.now c.items.link
       c.args.queue.now.items c.items.queue.items c.items.invariant.gone (not_awaits c.items.core.stage c.in_default.not-Awaits);
   keeps = c.items.invariant.keeps;
+  ends = c.items.invariant.ends;
   stands = c.items.invariant.stands;
   writing = c.items.invariant.writing;
   steps = c.items.invariant.steps;
@@ -36,6 +37,7 @@ items-preserved g c = record {
       c.answer_next.new.core c.items.link c.answer_next.new.link c.items.queue.items c.answer_next.new.queue.items c.in_ok-more.more true
       c.items.invariant.writing c.items.invariant.steps c.if-not-more.false c.in_ok-more.ensures.ok);
   keeps = c.in_ok-more.ensures.keeps;
+  ends = c.in_ok-more.ensures.ends;
   stands = c.in_ok-more.ensures.stands;
   writing = c.in_ok-more.ensures.writing ∙ c.items.invariant.writing;
   steps = c.in_ok-more.ensures.steps ∙ c.items.invariant.steps;

@@ -2,6 +2,7 @@ use Rattle.std.proofs.Common.{◌∙◌, sym}
 use Rattle.std.proofs.lemmas.Result.{on_ok_weaker}
 use Rattle.ncc_driver.specs.Work.{job_by}
 use Rattle.ncc_driver.proofs.Moving.{bytes_move, or_more_none, or_more_some}
+use Rattle.ncc_driver.proofs.EndsFit.{more_fits}
 use Rattle.ncc_driver.proofs.hear.hear.Goals as goal
 
 pub returns-then-len-held-clause-ok : goal.returns-then-len-held-clause-ok
@@ -23,3 +24,6 @@ returns-clause-ok g c =
     c.requires.at c.in_ok-feed.ensures.ok c.in_ok-answer_all.ensures.ok
     (or_more_some _ _ (λ e. c.if-len-held.false
     (c.len.ensures ∙ c.answer_all.new.queue.ok.0 ∙ e ∙ sym (c.len-held.ensures ∙ c.args.queue.now.ok.0))))
+
+pub returns-then-len-held-clause-ends : goal.returns-then-len-held-clause-ends
+returns-then-len-held-clause-ends g c = on_ok_weaker c.put.result (more_fits _ _ c.in_ok-answer_all.ensures.ends) c.put.ensures.ok

@@ -5,6 +5,7 @@ use Rattle.ncc_driver.specs.Work.{job_by}
 use Rattle.ncc_driver.proofs.Stepping.{idle_moves, rests_idle, begun_idle, sleeps_idle, joins_idle, awaits_idle, start_moves, wake_moves}
 use Rattle.ncc_driver.proofs.Stepping.{anew_stands}
 use Rattle.ncc_driver.proofs.Stepping.{lost_keeps, lost_stands, unjoined_moves, broken_moves, open_moves, on_all}
+use Rattle.ncc_driver.proofs.EndsFit.{attempt_fits, lost_fits, shaken_fits}
 use Rattle.ncc_driver.proofs.turn.turn.Goals as goal
 
 pub returns-in-Rests-clause-ok : goal.returns-in-Rests-clause-ok
@@ -36,6 +37,7 @@ returns-in_default g c = record {
       c.args.input.now (g.W.Work.stands c.args.work.now) c.args.core.now c.args.link.now c.args.queue.now.items (stage.Begun)
       c.in-Begun.is (begun_idle c.args.input.now c.in_default.not-Start);
   keeps = c.requires.keeps;
+  ends = c.requires.ends;
   stands = c.requires.stands;
   writing = refl;
   steps = refl;
@@ -64,6 +66,7 @@ returns-in_default-input g c = record {
       c.args.input.now (g.W.Work.stands c.args.work.now) c.args.core.now c.args.link.now c.args.queue.now.items (stage.Sleeps)
       c.in-Sleeps.is (sleeps_idle c.args.input.now c.in_default-input.not-Woken);
   keeps = c.requires.keeps;
+  ends = c.requires.ends;
   stands = c.requires.stands;
   writing = refl;
   steps = refl;
@@ -101,6 +104,7 @@ returns-in_default-input-2 g c = record {
       c.in-Joins.is (joins_idle c.in-Joins.leg c.args.input.now c.in_default-input-2.not-Connected
       c.in_default-input-2.not-Lost);
   keeps = c.requires.keeps;
+  ends = c.requires.ends;
   stands = c.requires.stands;
   writing = refl;
   steps = refl;
@@ -132,7 +136,32 @@ returns-in_default-input-3 g c = record {
       c.in-Awaits.is (awaits_idle c.in-Awaits.field-0 c.args.input.now c.in_default-input-3.not-Bytes
       c.in_default-input-3.not-Lost);
   keeps = c.requires.keeps;
+  ends = c.requires.ends;
   stands = c.requires.stands;
   writing = refl;
   steps = refl;
 }
+
+pub returns-in-Start-clause-ends : goal.returns-in-Start-clause-ends
+returns-in-Start-clause-ends g c =
+    on_ok_weaker c.attempt.result
+    (attempt_fits c.args.config.now c.writes.result c.args.now c.args.core.now c.attempt.new.core _ _ c.requires.ends)
+    c.attempt.ensures.ok
+
+pub returns-in-Woken-clause-ends : goal.returns-in-Woken-clause-ends
+returns-in-Woken-clause-ends g c =
+    on_ok_weaker c.attempt-in-Woken.result
+    (attempt_fits c.args.config.now c.writes-in-Woken.result c.args.now c.args.core.now c.attempt-in-Woken.new.core _ _ c.requires.ends)
+    c.attempt-in-Woken.ensures.ok
+
+pub returns-in-Connected-clause-ends : goal.returns-in-Connected-clause-ends
+returns-in-Connected-clause-ends g c = on_ok_weaker c.open.result (shaken_fits _ _ c.requires.ends) c.open.ensures.queue
+
+pub returns-in-Lost-clause-ends : goal.returns-in-Lost-clause-ends
+returns-in-Lost-clause-ends g c =
+    on_ok_weaker c.lose.result (lost_fits c.args.now c.args.core.now c.lose.new.core _ _ c.requires.ends) c.lose.ensures.ok
+
+pub returns-in-Lost-input-clause-ends : goal.returns-in-Lost-input-clause-ends
+returns-in-Lost-input-clause-ends g c =
+    on_ok_weaker c.lose-in-Lost-input.result (lost_fits c.args.now c.args.core.now c.lose-in-Lost-input.new.core _ _ c.requires.ends)
+    c.lose-in-Lost-input.ensures.ok

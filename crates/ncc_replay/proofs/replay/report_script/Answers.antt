@@ -1,7 +1,5 @@
 use Rattle.std.proofs.Common.{◌++◌, ◌∙◌, ap, List, ℕ}
 use Rattle.ncc_replay.specs.Report.{report_text}
-use Rattle.ncc_replay.specs.Script.{whole}
-use Rattle.ncc_replay.proofs.OneEnd.{text_fits}
 use Rattle.ncc_replay.proofs.replay.report_script.Goals as goal
 
 pub returns-in-Ok-append_report-clause-ok : goal.returns-in-Ok-append_report-clause-ok
@@ -10,6 +8,6 @@ returns-in-Ok-append_report-clause-ok c =
       run.0,
       run.1,
       run.2,
-      c.in-Ok-append_report.ensures run.0 run.1 run.3 (text_fits c.args.text.now run.0 run.1 whole run.2)
+      c.in-Ok-append_report.ensures run.0 run.1 run.3
           ∙ ap (λ (l : List ℕ). l ++ report_text run.0 run.1) c.new-bytes.ensures.empty,
     )

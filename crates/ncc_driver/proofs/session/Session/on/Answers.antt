@@ -4,7 +4,10 @@ use Rattle.ncc_driver.proofs.Talking.{tells_as, stays_as, tell_breaks}
 use Rattle.ncc_driver.proofs.session.Session.on.Goals as goal
 
 pub turn-requires-clause-keeps : goal.turn-requires-clause-keeps
-turn-requires-clause-keeps g c = c.self.invariant.1 c.if-self.false
+turn-requires-clause-keeps g c = (c.self.invariant.1 c.if-self.false).0
+
+pub turn-requires-clause-ends : goal.turn-requires-clause-ends
+turn-requires-clause-ends g c = (c.self.invariant.1 c.if-self.false).1
 
 pub returns-in-Ok-clause-ok : goal.returns-in-Ok-clause-ok
 returns-in-Ok-clause-ok g c =

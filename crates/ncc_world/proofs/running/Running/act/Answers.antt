@@ -1,6 +1,8 @@
-use Rattle.std.proofs.Common.{◌∙◌, Some, sym, ap, subst}
+use Rattle.std.proofs.Common.{◌≡◌, ◌∙◌, true, Some, sym, ap, subst}
 use Rattle.ncc_driver.specs.declared.action.Action.{Action}
 use Rattle.ncc_clients.specs.Drives.{does_by, joined}
+use Rattle.ncc_clients.specs.Held.{effect_fits}
+use Rattle.ncc_clients.specs.declared.driver.Effect.{Effect}
 use Rattle.ncc_world.specs.Setting.{cluster_of}
 use Rattle.ncc_world.specs.Happening.{WorldRun}
 use Rattle.ncc_world.specs.Drivers.{ended_as, with_one}
@@ -50,6 +52,9 @@ returns-in_ok-sleep-in-Sleeps-clause-ok c = λ r d action behind pending there h
       subst (λ (a : Action). RunsMid s at behind pending (record c.args.self.now { drivers = c.sleep.new.self })
           (does_by (cluster_of s) c.args.line at r d a)) (sym x.is) after,
     )
+
+pub end-requires-clause-fits : goal.end-requires-clause-fits
+end-requires-clause-fits c = subst (λ (x : Effect). effect_fits x ≡ true) c.in-Ends.is c.requires.fits
 
 pub returns-in_ok-end-in-Ends-clause-ok : goal.returns-in_ok-end-in-Ends-clause-ok
 returns-in_ok-end-in-Ends-clause-ok c = λ r d action behind pending there h e.

@@ -1,8 +1,9 @@
-use Rattle.std.proofs.Common.{◌≡◌, ◌∙◌, ℕ, List, [], Option, Some, sym, subst}
+use Rattle.std.proofs.Common.{◌≡◌, ◌∙◌, ℕ, true, List, [], Option, Some, sym, subst}
 use Rattle.std.specs.Prelude.{IfNone, IfSome}
 use Rattle.ncc_driver.specs.declared.action.Action.{Action}
 use Rattle.ncc_clients.specs.Links.{Driver, Driving}
 use Rattle.ncc_clients.specs.Drives.{does_all}
+use Rattle.ncc_clients.specs.Held.{effect_fits}
 use Rattle.ncc_clients.specs.declared.driver.Effect.{Effect}
 use Rattle.ncc_world.specs.declared.setup.Setup.{Setup}
 use Rattle.ncc_world.specs.declared.drivers.Drivers.{Drivers}
@@ -35,6 +36,10 @@ act-requires-clause-live c =
     let f = first_some at c.loop-told.self.drivers c.next.new.self c.in_ok-effect.field-0 c.in-Some.effect c.in-Some.is c.in_ok-effect.ensures.some in
     has_begun s at x.left h.pending (record c.loop-told.self { drivers = c.next.new.self }) x.run x.driver c.in-Some.effect x.there
     (does_first s at x.left h.pending c.loop-told.self x.run x.driver c.next.new.self c.in-Some.effect x.there x.runs_mid (f s x.driver x.left))
+
+pub act-requires-clause-fits : goal.act-requires-clause-fits
+act-requires-clause-fits c =
+    subst (λ (o : Option Effect). IfSome o (λ (x : Effect). effect_fits x ≡ true)) c.in-Some.is c.in_ok-effect.ensures.fits
 
 pub loop-told-smaller : goal.loop-told-smaller
 loop-told-smaller c =
