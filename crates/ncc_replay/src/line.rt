@@ -85,6 +85,7 @@ fn verb_of(word: &[u8]) -> Option<Verb>
 {
     match word {
         b"cluster" => Some(Verb::Cluster),
+        b"limit" => Some(Verb::Cluster),
         b"time" => Some(Verb::Time),
         b"put" => Some(Verb::Put),
         b"get" => Some(Verb::Get),
@@ -510,7 +511,7 @@ pub fn parse_line(alloc: Global, cluster: u64, line: &[u8]) -> Result<Option<Eve
 }
 
 // What follows `cluster list`.
-fn setup(rest: Option<&[u8]>) -> Option<Setup>
+fn setup(kind: Kind, rest: Option<&[u8]>) -> Option<Setup>
     ensures some { IfSome result (λ s. AreSetup (codes "cluster" ∷ codes "list" ∷ words_in rest.entry) s) }
     ensures none { IfNone result ((s : Setup)
         → ¬ (AreSetup (codes "cluster" ∷ codes "list" ∷ words_in rest.entry) s)) }
@@ -523,7 +524,7 @@ fn setup(rest: Option<&[u8]>) -> Option<Setup>
         return None;
     }
     Some(Setup {
-        kind: Kind::List,
+        kind,
         cores: cores as u8,
         replicas: replicas as u8,
         cluster,
@@ -552,10 +553,28 @@ fn kind(rest: Option<&[u8]>) -> Option<Setup>
     let Some((kind, rest)) = next_word(rest) else {
         return None;
     };
-    if !is_list(kind) {
+    if is_list(kind) {
+        return setup(Kind::List, rest);
+    }
+    if kind == b"raft".as_slice() {
+        return setup(Kind::Raft, rest);
+    }
+    None
+}
+
+/// Reads a `limit` line, if it is one.
+pub fn parse_limit(line: &[u8]) -> Option<Result<u64, Cause>> {
+    let (verb, rest) = cut(line);
+    if verb != b"limit".as_slice() {
         return None;
     }
-    setup(rest)
+    let Some((limit, rest)) = next_number(rest, MAX_ENTRIES) else {
+        return Some(Err(Cause::BadLine));
+    };
+    if limit == 0 || rest.is_some() {
+        return Some(Err(Cause::BadLine));
+    }
+    Some(Ok(limit))
 }
 
 /// Reads the `cluster` line. The cause of a line that says no cluster is `NoCluster` where its first word is not `cluster`,

@@ -14,6 +14,7 @@ mod raft_line;
 mod replay;
 mod report;
 mod script;
+mod sent_line;
 mod session_line;
 mod status;
 mod work_line;

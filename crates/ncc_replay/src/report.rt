@@ -28,6 +28,7 @@ ghost use Rattle.ncc_replay.specs.Line.{hex};
 use crate::hex::append_hex;
 use crate::line::is_word;
 use crate::number::append_number;
+use crate::sent_line::append_sent;
 use crate::work_line::append_works;
 use ncc_pack::{Bytes, Rows, Text, Value, Values, encode_list_head, encode_values};
 use ncc_session::Fact;
@@ -465,6 +466,9 @@ pub fn report(world: &World, into: &mut Bytes) -> Result<(), AllocError>
     append_works(world.works().as_slice(), into)?;
     append_conns(world.conns().as_slice(), into)?;
     append_outs(world.conns().as_slice(), into)?;
+    if let Some(sent) = world.sent() {
+        append_sent(sent.as_slice(), into)?;
+    }
     append_members(world.members().as_slice(), into)?;
     append_history(world, into)?;
     into.extend(b"end\n")

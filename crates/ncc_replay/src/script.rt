@@ -10,9 +10,9 @@ ghost use Rattle.ncc_replay.specs.declared.script.ScriptError.{ScriptError as Er
 ghost use Rattle.ncc_world.specs.declared.error.Which.{Which as Limits};
 ghost use Rattle.ncc_world.specs.Happening.{WorldRun};
 
-use crate::line::{LineError, parse_cluster, parse_line, skips};
+use crate::line::{LineError, parse_cluster, parse_limit, parse_line, skips};
 use crate::status::Cause;
-use ncc_world::{Which, World, WorldError};
+use ncc_world::{Kind, Which, World, WorldError};
 use std::alloc::Global;
 use thiserror::Error;
 
@@ -174,7 +174,31 @@ fn take_event(
     ensures bad { (e : Errors) → IsErrOf result e → (all rest : Lines) →
         GoesOn all ((number, line.now) ∷ rest) (Progress.Events count world) → EndsSo all e }
 {
-    let setup = world.setup();
+    let mut setup = world.setup();
+    if count == 0 {
+        match parse_limit(line) {
+            None => {}
+            Some(Err(cause)) => {
+                return Err(ScriptError::Bad {
+                    line: number,
+                    cause,
+                });
+            }
+            Some(Ok(limit)) => {
+                if setup.kind == Kind::List {
+                    return Err(ScriptError::Bad {
+                        line: number,
+                        cause: Cause::WrongWorld,
+                    });
+                }
+                setup.limit = limit;
+                return match World::new(alloc, setup) {
+                    Ok(world) => Ok(Progress::Events { count: 1, world }),
+                    Err(_) => Err(ScriptError::Memory),
+                };
+            }
+        }
+    }
     let event = match parse_line(alloc, setup.cluster, line) {
         Ok(Some(event)) => event,
         Ok(None) => return Ok(Progress::Events { count, world }),

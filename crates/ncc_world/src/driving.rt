@@ -434,4 +434,46 @@ impl Running {
         }
         unreachable!();
     }
+
+    // The sessions whose links are connections of this member that have not ended, ascending.
+    fn hanging(&self, alloc: Global, member: u8) -> Result<Vec<u64>, Memory> {
+        let mut lost = Vec::new(alloc);
+        for (index, driver) in self.drivers.list.iter().enumerate() {
+            if let Some(link) = driver.link() {
+                if self.clients.live[member as usize - 1].contains(&link.conn()) {
+                    lost.push(index as u64)?;
+                }
+            }
+        }
+        Ok(lost)
+    }
+
+    // The connections of this member that have not ended.
+    fn living(&self, alloc: Global, member: u8) -> Result<Vec<u64>, Memory> {
+        let mut numbers = Vec::new(alloc);
+        for number in self.clients.live[member as usize - 1].iter() {
+            numbers.push(*number)?;
+        }
+        Ok(numbers)
+    }
+
+    /// A member starts again: its connections are closed, and the sessions whose links those were are told, the lowest number first.
+    pub(crate) fn crash(
+        &mut self,
+        alloc: Global,
+        setup: &Setup,
+        line: u64,
+        member: u8,
+    ) -> Result<(), Memory> {
+        let lost = self.hanging(alloc, member)?;
+        for number in self.living(alloc, member)?.iter() {
+            self.close(setup, *number as usize - 1)?;
+            self.earlier[*number as usize - 1] = None;
+        }
+        self.members.crash(alloc, setup, member)?;
+        for index in lost.iter() {
+            self.cut(alloc, setup, line, *index as usize)?;
+        }
+        Ok(())
+    }
 }

@@ -13,6 +13,7 @@ mod earlier;
 mod ended;
 mod error;
 mod event;
+mod fleet;
 mod laws;
 mod log;
 mod members;
@@ -37,6 +38,7 @@ pub use laws::{
 pub use ncc_apply::{Shelf, Stamp};
 pub use ncc_clients::Told;
 pub use ncc_driver::{Last, WorkDone, WorkError};
+pub use ncc_raft::{Body, Envelope, Envelopes};
 pub use ncc_tx::Entries;
 pub use seen::{ConnList, ConnSeen, MemberList, MemberSeen, Shown, ToldList, WorkList, WorkSeen};
 pub use setup::{Kind, Setup};

@@ -29,6 +29,7 @@ use crate::served::{Change, question};
 use crate::setup::Setup;
 use crate::telling::Telling;
 use ncc_bolt::Request;
+use ncc_member::NodeEvent;
 use ncc_clients::Told;
 use ncc_pack::{Bytes, Memory};
 use ncc_session::{Ask, Fact};
@@ -307,6 +308,47 @@ impl Running {
         self.clients.seen.as_slice()[conn as usize - 1].printed && !self.drivers.is_linked(conn)
     }
 
+    // Why an event of a core over Raft is refused.
+    fn core_refusal(&self, setup: &Setup, member: u8) -> Option<WorldError> {
+        if !self.members.are_raft() {
+            return Some(WorldError::WrongWorld);
+        }
+        if !self.is_member(setup, member) {
+            return Some(WorldError::NoMember);
+        }
+        unless(member <= setup.cores, WorldError::WrongRole)
+    }
+
+    fn message_refusal(&self, message: u64) -> Option<WorldError> {
+        match self.members.sent() {
+            None => Some(WorldError::WrongWorld),
+            Some(sent) => unless(
+                1 <= message && message <= sent.len() as u64,
+                WorldError::NoMessage,
+            ),
+        }
+    }
+
+    fn pull_refusal(&self, setup: &Setup, replica: u8, core: u8) -> Option<WorldError> {
+        if !self.members.are_raft() {
+            return Some(WorldError::WrongWorld);
+        }
+        if !self.is_member(setup, replica) || !self.is_member(setup, core) {
+            return Some(WorldError::NoMember);
+        }
+        unless(
+            setup.cores < replica && core <= setup.cores,
+            WorldError::WrongRole,
+        )
+    }
+
+    fn crash_refusal(&self, setup: &Setup, member: u8) -> Option<WorldError> {
+        if !self.members.are_raft() {
+            return Some(WorldError::WrongWorld);
+        }
+        unless(self.is_member(setup, member), WorldError::NoMember)
+    }
+
     /// Why an event is refused, if it is.
     pub(crate) fn refusal(&self, setup: &Setup, event: &Event) -> Option<WorldError>
         ensures exact { (r : WorldRun) → RunsAll setup.now self.now r → result ≡ refusal setup.now r event.now }
@@ -320,7 +362,9 @@ impl Running {
                 unless(self.is_member(setup, *member), WorldError::NoMember)
             }
             Event::Apply { member, .. } => {
-                if !self.is_member(setup, *member) {
+                if self.members.are_raft() {
+                    Some(WorldError::WrongWorld)
+                } else if !self.is_member(setup, *member) {
                     Some(WorldError::NoMember)
                 } else if *member == 1 {
                     Some(WorldError::WrongRole)
@@ -328,11 +372,11 @@ impl Running {
                     None
                 }
             }
-            Event::Timeout { .. } => Some(WorldError::WrongWorld),
-            Event::Beat { .. } => Some(WorldError::WrongWorld),
-            Event::Deliver { .. } => Some(WorldError::WrongWorld),
-            Event::Pull { .. } => Some(WorldError::WrongWorld),
-            Event::Crash { .. } => Some(WorldError::WrongWorld),
+            Event::Timeout { member } => self.core_refusal(setup, *member),
+            Event::Beat { member } => self.core_refusal(setup, *member),
+            Event::Deliver { message } => self.message_refusal(*message),
+            Event::Pull { replica, core } => self.pull_refusal(setup, *replica, *core),
+            Event::Crash { member } => self.crash_refusal(setup, *member),
             Event::Open { member } => unless(self.is_member(setup, *member), WorldError::NoMember),
             Event::Bytes { conn, .. } => {
                 unless(self.is_open_made(setup, *conn), WorldError::NoConn)
@@ -473,11 +517,11 @@ impl Running {
                 self.ask(alloc, setup, *member, &request)
             }
             Event::Apply { member, count } => self.apply(setup, *member, *count),
-            Event::Timeout { .. } => unreachable!(),
-            Event::Beat { .. } => unreachable!(),
-            Event::Deliver { .. } => unreachable!(),
-            Event::Pull { .. } => unreachable!(),
-            Event::Crash { .. } => unreachable!(),
+            Event::Timeout { member } => self.members.step(*member, NodeEvent::Timeout),
+            Event::Beat { member } => self.members.step(*member, NodeEvent::Beat),
+            Event::Deliver { message } => self.members.deliver(setup, *message),
+            Event::Pull { replica, core } => self.members.pull(alloc, setup, *replica, *core),
+            Event::Crash { member } => self.crash(alloc, setup, line, *member),
             Event::Open { member } => self.open(alloc, setup, *member, true),
             Event::Bytes { conn, bytes } => {
                 let piece = bytes.copy()?;

@@ -6,6 +6,8 @@ pub enum Kind {
     /// Over one list: core 1 leads always, in term 1, and applies each entry as it appends it. The other members apply where
     /// an event says so.
     List,
+    /// Over Raft: cores have logs with journals and elect who leads, and replicas pull.
+    Raft,
 }
 
 /// A cluster.

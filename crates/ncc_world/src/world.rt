@@ -19,6 +19,9 @@ use crate::running::Running;
 use crate::seen::{ConnList, MemberList, ToldList, WorkList};
 use crate::setup::Setup;
 use ncc_apply::{Shelf, Stamp};
+use ncc_base::MemDisk;
+use ncc_member::Node;
+use ncc_raft::Envelopes;
 use ncc_pack::Memory;
 use ncc_tx::Entries;
 use std::alloc::Global;
@@ -103,7 +106,13 @@ impl World {
                 self.standing = Standing::Alive;
                 Ok(())
             }
-            Err(_) => Err(WorldError::Memory),
+            Err(_) => match self.run.members.passed() {
+                Some(which) => {
+                    self.standing = Standing::Past(which);
+                    Err(WorldError::Limit(which))
+                }
+                None => Err(WorldError::Memory),
+            },
         }
     }
 
@@ -151,6 +160,16 @@ impl World {
         ensures fit { WorksFit result.now }
     {
         self.run.drivers.works()
+    }
+
+    /// All messages that were ever sent, in the order of sending; none over one list. It takes no memory.
+    pub fn sent(&self) -> Option<&Envelopes> {
+        self.run.members.sent()
+    }
+
+    /// The node of a core over Raft; none where there is no such core. It takes no memory.
+    pub fn node(&self, member: u8) -> Option<&Node<MemDisk>> {
+        self.run.members.node(member)
     }
 
     /// The history: the longest list that a member has applied. It takes no memory.
