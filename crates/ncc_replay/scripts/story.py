@@ -1,7 +1,7 @@
 """What happened in a run, read from its script and its report for `./picture`: notes for each line of the script and each lane.
 
-What the report does not say (in which line a message was sent, which role and term a member had) follows from the script and from the
-messages: `Run` has the part of the members' rules that roles and terms need, and no logs.
+What the report does not say (in which line a message was sent, which role and term a member had, when it applied an entry) follows from
+the script and from the messages: `Run` has the part of the members' rules that these need, and no logs.
 """
 from dataclasses import dataclass, field
 
@@ -29,6 +29,7 @@ class Script:
     kind: str = "list"
     cores: int = 0
     replicas: int = 0
+    limit: int = 2 ** 24
     title: str = "a script without a cluster"
     lines: list = field(default_factory=list)
     events: list = field(default_factory=list)
@@ -97,6 +98,7 @@ def read_script(path):
         if stage == 2:
             script.events.append(line)
             script.sessions += verb == "session"
+            script.limit = int(line.words[1]) if verb == "limit" else script.limit
         stage = min(stage + 1, 2)
     return script
 
@@ -171,14 +173,21 @@ class Member:
     role: str
     term: int
     votes: set = field(default_factory=set)
-    length: int = 0
+    length: int = 0  # of a leader's log
+    start: int = 0  # its length when it was elected
+    match: dict = field(default_factory=dict)
+    at: int = 0  # how many entries it has applied
 
 
 class Run:
-    """The script's events in order: notes for each line and lane (members from 1, then sessions), and each message's lines."""
+    """The script's events in order: notes for each line and lane (members from 1, then sessions), and each message's lines.
 
-    def __init__(self, script, report):
-        self.script, self.report = script, report
+    `lines` are those in which the messages were sent, where that is known. Else it follows from the messages, and for proposals of
+    Bolt connections and sessions it is inferred.
+    """
+
+    def __init__(self, script, report, lines=None):
+        self.script, self.report, self.lines = script, report, lines
         self.size = script.cores + script.replicas
         self.members = [None] + [self.first_state(number) for number in range(1, self.size + 1)]
         self.start = [(member.role, member.term) for member in self.members[1:]]
@@ -188,7 +197,7 @@ class Run:
         self.quiet = [conn for conn in sorted(report.conns) if conn not in report.outs]
         self.asked, self.loud = list(self.quiet), sorted(report.outs)
         verbs = [line.words[0] for line in script.events if line.words[0] in ("put", "get")]
-        self.readers = {conn for conn, verb in zip(self.quiet, verbs) if verb == "get"}
+        self.readers = [conn for conn, verb in zip(self.quiet, verbs) if verb == "get"]
         for line in script.events:
             self.play(line)
         if self.next_sent < len(report.sent) and script.events:
@@ -231,7 +240,7 @@ class Run:
         """How many of the next messages, at most `most`, are of this sender and these kinds."""
         count = 0
         for source, _, words in self.report.sent[self.next_sent:self.next_sent + most]:
-            if source != sender or words[0] not in kinds:
+            if source != sender or words[0] not in kinds or self.lines and self.lines[self.next_sent + count] != self.line:
                 break
             count += 1
         return count
@@ -240,9 +249,10 @@ class Run:
         self.take(self.front(sender, kinds, most))
 
     def due(self, line):
-        """The members that a put proposed at in this line: it was told its rows there, so its member led."""
+        """The members that a put proposed at in this line: it was told its rows there, so its member led, and had room."""
+        full = [conn for number, conn, text in self.report.facts if number == line and text.startswith("full ")]
         return [self.report.conns[conn][0] for number, conn, text in self.report.facts
-                if number == line and conn in self.quiet and text.startswith("rows ") and conn not in self.readers]
+                if number == line and conn in self.quiet and text.startswith("rows ") and conn not in self.readers + full]
 
     def kept(self, sender):
         """How many of the next groups of appends are those of puts and beats that directly follow."""
@@ -266,6 +276,10 @@ class Run:
         for sender in self.due(self.line):
             self.members[sender].length += 1
             self.send(sender, ("append",), self.script.cores - 1)
+            self.commit(sender)
+        if self.lines:
+            self.take(self.lines[self.next_sent:].count(self.line))
+            return
         moved = self.open_questions() or self.verb in ("bytes", "up", "down", "pump")
         while moved and self.next_sent < len(self.report.sent):
             sender, _, words = self.report.sent[self.next_sent]
@@ -293,6 +307,34 @@ class Run:
             text = f"{role}, term {term}" if role != "leader" else f"leader of term {term}"
             self.note(number, text, "role", state=(role, term))
 
+    # -- what members apply --
+
+    def applies(self, number, place):
+        """The member has now applied so many entries, where it had fewer."""
+        member = self.members[number]
+        if place > member.at:
+            first = member.at + 1
+            text = f"applies {place}" if place == first else f"applies {first} {'and' if place == first + 1 else 'to'} {place}"
+            self.note(number, text, mark="apply")
+            member.at = place
+
+    def commit(self, number):
+        """A leader commits what a majority has, where the last of it is of its own term."""
+        member = self.members[number]
+        if member.role != "leader" or self.script.kind != "raft":
+            return
+        held = sorted([member.length] + [member.match.get(other, 0) for other in range(1, self.script.cores + 1) if other != number])
+        place = held[(self.script.cores - 1) // 2]
+        if place > member.start:
+            self.applies(number, place)
+
+    def reached(self, number, text):
+        """What a client is told shows how many entries its member has applied."""
+        words = text.split(" ")
+        known = {"entered": 1, "rows": 1, "done": 1, "faulted": 1, "placed": 1, "stale": 1, "replaced": 1, "late": 2, "unsure": 2}
+        if words[0] in known and self.script.kind == "raft":
+            self.applies(number, int(words[known[words[0]]]))
+
     # -- the members' events --
 
     def on_timeout(self, number):
@@ -319,7 +361,7 @@ class Run:
         member = self.members[number]
         role = "replica" if member.role == "replica" else "follower"
         self.note(number, "crashes, starts again", "crash", mark="crash", state=(role, member.term))
-        member.votes = set()
+        member.votes, member.at = set(), 0
         self.pending = {conn for conn in self.pending if self.report.conns[conn][0] != number}
         self.become(number, role, member.term)
 
@@ -329,6 +371,8 @@ class Run:
         kind, member = words[0], self.members[number]
         if kind == "pull":
             self.send(number, ("batch",), 1)
+        if kind == "batch" and int(words[1]) <= member.at + 1:
+            self.applies(number, int(words[1]) + int(words[2]) - 1)
         if kind in ("pull", "batch") or number > self.script.cores or (sender == number and kind != "vote-reply"):
             return
         term = int(words[1])
@@ -341,9 +385,20 @@ class Run:
         elif kind == "append":
             if term == member.term and member.role == "candidate":
                 self.become(number, "follower", term)
-            self.send(number, ("append-reply",), 1)
+            self.take_over(number, int(words[4]))
         elif member.role == "leader" and term == member.term and words[2] == "no":
             self.send(number, ("append",), 1)
+        elif member.role == "leader" and term == member.term:
+            member.match[sender] = max(member.match.get(sender, 0), int(words[3]))
+            self.commit(number)
+
+    def take_over(self, number, committed):
+        """A follower answers an append; where that is a yes, it applies what is committed of it."""
+        if self.front(number, ("append-reply",), 1):
+            _, _, words = self.report.sent[self.next_sent]
+            if words[2] == "yes":
+                self.applies(number, min(committed, int(words[3])))
+            self.take(1)
 
     def vote(self, sender, number, words):
         member = self.members[number]
@@ -351,9 +406,19 @@ class Run:
             return
         member.votes.add(sender)
         if 2 * len(member.votes) > self.script.cores:
-            member.length = 0
             self.become(number, "leader", member.term)
+            self.elected(member)
             self.send(number, ("append",), self.script.cores - 1)
+            self.commit(number)
+
+    def elected(self, member):
+        """The first append of a leader tells how long its log was, and whether there was room for its own entry."""
+        own = member.length < self.script.limit
+        if self.script.cores > 1:
+            _, _, words = self.report.sent[self.next_sent]
+            member.length, own = int(words[2]), int(words[5])
+        member.start, member.match = member.length, {}
+        member.length += own
 
     def on_apply(self, number, count):
         self.note(number, f"applies up to {counted(count, 'entry').replace('entrys', 'entries')}", mark="apply")
@@ -407,7 +472,10 @@ class Run:
 
     def told(self):
         """What was told in this line: facts beside the member's lane, ended works beside the session's."""
-        for conn, texts in grouped((conn, text) for number, conn, text in self.report.facts if number == self.line):
+        facts = [(conn, text) for number, conn, text in self.report.facts if number == self.line]
+        for conn, text in facts:
+            self.reached(self.report.conns[conn][0], text)
+        for conn, texts in grouped(facts):
             for text, style in texts:
                 self.note(self.report.conns[conn][0], f"c{conn} {self.with_entry(text)}", style, mark=style)
         for number, session, text in self.report.works:
