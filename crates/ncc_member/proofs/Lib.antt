@@ -1,4 +1,3 @@
 pub mod Bounds
-pub mod Starting
 pub mod Turning
 pub mod Opened

@@ -1,13 +1,10 @@
 -- What a journal that was opened says of a node that was not.
-use Rattle.std.proofs.Common.{◌≡◌, inl, inr, ℕ, ◌^◌, ◌≤◌, ◌<◌, List, [], length, sym, ap, ◌∙◌, subst, arith}
+use Rattle.std.proofs.Common.{◌≡◌, inl, inr, ℕ, ◌^◌, ◌≤◌, ◌<◌, List, length, sym, ap, subst, arith}
 use Rattle.std.specs.Prelude.{◌≢◌}
-use Rattle.ncc_base.specs.declared.disk.Disk.{Ghosts}
-use Rattle.ncc_base.specs.Disk.{LeavesOnly, Only}
 use Rattle.ncc_tx.specs.declared.entry.Saved.{Saved}
 use Rattle.ncc_log.specs.declared.error.JournalError.{JournalError}
 use Rattle.ncc_log.specs.declared.error.JournalError.TheVariants as e
 use Rattle.ncc_log.specs.Saves.{IsFree, IsOrFree, IsRefusal, Refuses, Saves}
-use Rattle.ncc_log.proofs.Moments.{started}
 use Rattle.ncc_log.proofs.Refusals.{apart}
 use Rattle.ncc_log.proofs.Rows.{saves_kept}
 use Rattle.ncc_log.proofs.Save.{one_saves}
@@ -36,20 +33,8 @@ module _ (cluster member limit : ℕ) (b : List ℕ) (saved : Saved) (saves : Sa
   other_start error (inr (inl (is, longer))) other = absurd (other is)
   other_start error (inr (inr (is, bad))) other = absurd (bad (saves_kept cluster member b saved saves))
 
-  pub fault_start : (error : JournalError) → NoStart limit saved error → error ≡ e.DiskFault → ⊥
-  fault_start error (inl is) fault = let bad : e.Memory ≡ e.DiskFault = sym is ∙ fault in cc
-  fault_start error (inr (inl (is, longer))) fault = let bad : e.Full ≡ e.DiskFault = sym is ∙ fault in cc
-  fault_start error (inr (inr (is, bad_part))) fault = let bad : e.Damaged 14 ≡ e.DiskFault = sym is ∙ fault in cc
-
   pub never_refused : (error : JournalError) → cluster < 2 ^ 64 → Refuses cluster member b error → ⊥
   never_refused error few r = apart cluster member b saved error few saves r
 
   pub never_long : length saved.log ≤ limit → StandsTooLong cluster member b limit → ⊥
   never_long short t = omega (arith, t.longer, same_long t.part t.saves, short)
-
--- nothing was asked yet
-pub not_begun : {D : Type 0} (g : Ghosts D) → ((disk : D) (c : List ℕ) → g.told → g.left_since disk (g.moment disk) c → g.may_leave disk c) →
-    (disk : D) → g.told → Only [] (g.may_leave disk) → LeavesOnly g.moment g.left_since disk disk (λ c. length c ≤ 15)
-not_begun g law disk told only =
-    started g.moment g.left_since disk (λ c. length c ≤ 15)
-    (λ c left. omega (arith, ap (λ (l : List ℕ). length l) (only c (law disk c told left))))

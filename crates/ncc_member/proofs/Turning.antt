@@ -1,7 +1,7 @@
 -- A turn, part by part: room was made, the core stepped, its change was saved.
 use Rattle.std.proofs.Common.{◌≡◌, ◌⊎◌, inl, inr, ⊎_elim, ℕ, ◌+◌, ◌≤◌, ◌<◌, Bool, false, true, List, [], ◌∷◌, ◌++◌, length, take, drop, Result, Err, Option, Some, refl, sym}
 use Rattle.std.proofs.Common.{ap, ◌∙◌, subst, arith}
-use Rattle.std.proofs.lemmas.List.{append-nil, length-drop, take-append-drop, take-take}
+use Rattle.std.proofs.lemmas.List.{length-drop, take-append-drop, take-take}
 use Rattle.ncc_base.specs.declared.disk.Disk.{Ghosts}
 use Rattle.ncc_base.specs.Disk.{Asked, LeavesOnly, Only}
 use Rattle.ncc_base.specs.Faults.{Rose}
@@ -16,7 +16,7 @@ use Rattle.ncc_log.specs.Calls.{Asks, AsksUntilFailed, MakesRoom, gated, stopped
 use Rattle.ncc_log.specs.Records.{recorded}
 use Rattle.ncc_log.specs.Saves.{BeforeOrAfter, Saves}
 use Rattle.ncc_log.specs.Shown.{IsSame, Shown}
-use Rattle.ncc_log.proofs.Moments.{WentOn, asks_on, joins, weaker}
+use Rattle.ncc_log.proofs.Moments.{WentOn, asks_on, joins}
 use Rattle.ncc_raft.specs.Appending.{applied}
 use Rattle.ncc_raft.specs.Core.{IsCore, IsSeat, IsSound, Seated}
 use Rattle.ncc_raft.specs.Laws.{MayCome}
@@ -91,9 +91,6 @@ goes_on core event new a come is =
     subst (λ (m : Member). GoesOn core.member m) (sym is)
     (goes_by core.member (step core.seat core.member event).member back.commit back.applied)
 
-pub goes_still : (old new : Member) → new ≡ old → GoesOn old new
-goes_still old new is = ([], ap applied is ∙ sym (append-nil (applied old)))
-
 -- ---- a save that is refused is the disk's fault
 
 -- there is room, and the log is not too long
@@ -162,14 +159,7 @@ module _ {D : Type 0} (g : Ghosts D) where
         (sym cluster) (sym member) ch.after here);
   }
 
-  -- at any moment so far a crash leaves the part before
-  pub quiet : (old mid : Shown D) (core : Seated) (after : Saved) → Agrees g old core → MakesRoom g old.disk mid.disk → g.told →
-      LeavesOnly g.moment g.left_since old.disk mid.disk (BeforeOrAfter old.cluster old.member (kept core.member) after)
-  quiet old mid core after a makes told =
-      weaker g.moment g.left_since old.disk mid.disk (g.may_leave old.disk)
-      (BeforeOrAfter old.cluster old.member (kept core.member) after) (makes.looks.time told) (λ c left. inl (a.rests told c left))
-
-  -- and behind a save the part before or behind it
+  -- at any moment of a turn that saves a crash leaves the part before or behind it
   pub run : SeenMayBeLeft → (old mid new : Shown D) (core : Seated) (c : ChangeSet) (after : Saved) → Agrees g old core → IsSame old mid →
       MakesRoom g old.disk mid.disk → part_after (kept core.member) c ≡ after → g.told
       → ((s : Saved) → Saves mid.cluster mid.member (g.seen mid.disk) s → LeavesOnly g.moment g.left_since mid.disk new.disk

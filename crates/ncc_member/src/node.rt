@@ -11,7 +11,7 @@ ghost use Rattle.ncc_log.specs.declared.error.JournalError.{JournalError};
 ghost use Rattle.ncc_log.specs.Calls.{Arms, Asks, AsksUntilFailed};
 ghost use Rattle.ncc_log.specs.Saves.{BeforeOrAfter, IsFree, IsOrFree, IsRefusal, Refuses, Saves, nothing};
 ghost use Rattle.ncc_log.specs.Shown.{Ready, disk_of};
-ghost use Rattle.ncc_raft.specs.Core.{IsSeat};
+ghost use Rattle.ncc_raft.specs.Core.{IsCore, IsSeat};
 ghost use Rattle.ncc_raft.specs.Laws.{MayCome};
 ghost use Rattle.ncc_raft.specs.Member.{is_leader, kept, started};
 ghost use Rattle.ncc_member.specs.declared.event.NodeError.{NodeError};
@@ -243,10 +243,13 @@ impl<D: Disk> Node<D> {
         }
     }
 
-    /// The core.
+    /// The core. Here a caller learns what every node keeps: while it is not down, a crash leaves just the core's saved part.
     pub fn core(&self) -> &Core
         ensures seat { result.now.seat ≡ self.now.seat }
         ensures member { result.now.member ≡ self.now.member }
+        ensures rests { self.now.down ≡ false → D.told →
+            Rests D.Disk self.now.cluster self.now.seat.id self.now.disk (kept self.now.member) }
+        ensures sound { self.now.down ≡ false → IsCore (record { seat = self.now.seat; member = self.now.member }) }
     {
         &self.core
     }
