@@ -54,8 +54,11 @@ def main():
     with tempfile.TemporaryDirectory() as folder:
         program = sys.argv[1] if len(sys.argv) > 1 else os.path.join(folder, "cases")
         if len(sys.argv) < 2:
+            # No case is tried, which is no success; the program is kept all the same.
             subprocess.run([os.path.join(TOP, "cases-hold"), "--program", program, "drivers"], stdin=subprocess.DEVNULL,
-                           stdout=subprocess.DEVNULL, check=True)
+                           stdout=subprocess.DEVNULL)
+            if not os.path.exists(program):
+                return "hostile.py: the program of the cases could not be built"
         wrong = 0
         print(f"{'answers':44}{'how':14}{'number':>10}{'seconds':>9}{'growth':>8}{'peak MB':>9}")
         for name, given, most, line in KINDS:
